@@ -1,16 +1,15 @@
 //! Small feeds, and what queries over them give.
 
-ghost use Rattle.std.specs.Prelude.{◌≡◌, ◌++◌, List, IfOk, IfSome, IsTrue};
+ghost use Rattle.std.specs.Prelude.{◌≡◌, ◌++◌, List, IfOk, IfSome};
 ghost use Rattle.ix_posting.specs.Rows.{DocumentsRise, WordDocument};
 ghost use Rattle.ix_posting.specs.Forms.{number_form, pair_form};
-ghost use Rattle.q_tree.specs.ReducedQueries.{reduced_of};
 ghost use Rattle.ix_posting.specs.Lists.{posting_list};
-ghost use Rattle.ix_cursor.specs.Reading.{TokensRise, SlotFeedsRise, SectionFeedsRise, FeedsRise, IsPlain};
+ghost use Rattle.ix_cursor.specs.Reading.{TokensRise, SlotFeedsRise, SectionFeedsRise, FeedsRise};
 
 use ct_base::{DocId, Listed, Memory, Name, Pair};
 use ix_cursor::{Candidates, Cursor, Feeds, SectionFeed, SlotFeed};
 use ix_posting::{EncodedRow, EncodedRows, Row, RowDocument};
-use q_tree::{Flat, Phrases, Place, Slot};
+use q_tree::{Flat, Phrases, Place, Slot, SumStep};
 use std::alloc::Global;
 use std::test::Fail;
 use tx_chars::Key;
@@ -197,6 +196,13 @@ fn near(alloc: Global, first: &[u8], second: &[u8], ordered: bool) -> Result<Fla
     })
 }
 
+/// A term of `a` and `c`, whose score is ten times the number of its occurrences.
+fn define(alloc: Global) -> Result<Flat, Memory> {
+    let term = phrases(alloc, b"m")?;
+    let sum = vec![in alloc; SumStep::Occurrence, SumStep::Number(10), SumStep::Times]?;
+    Ok(Flat::Define(term, Listed::of(sum)))
+}
+
 /// The last part of a query.
 fn one(alloc: Global, parts: &mut Vec<Flat>) -> Result<Box<Flat>, Fail> {
     let Some(part) = parts.pop() else {
@@ -239,6 +245,7 @@ fn part(alloc: Global, parts: &mut Vec<Flat>, letter: u8) -> Result<Flat, Fail> 
         b'*' | b'>' | b'S' | b'F' | b'Z' => changed(alloc, parts, letter),
         b'N' => Ok(near(alloc, b"a", b"b", false)?),
         b'O' => Ok(near(alloc, b"b", b"a", true)?),
+        b'D' => Ok(define(alloc)?),
         b'P' => Ok(Flat::Term(phrases(alloc, b"ab")?)),
         b'Q' => Ok(Flat::Term(phrases(alloc, b"a?c")?)),
         _ => Ok(Flat::Term(phrases(alloc, &[letter])?)),
@@ -246,7 +253,8 @@ fn part(alloc: Global, parts: &mut Vec<Flat>, letter: u8) -> Result<Flat, Fail> 
 }
 
 /// A query in postfix form. A small letter is a word, and `m` a slot of `a` and `c`; `P` is the phrase `a b`, and `Q` the phrase of
-/// `a`, any word and `c`; `N` is `a` near `b`, and `O` is `b` near `a` in that order, each within two words. Behind two parts stand
+/// `a`, any word and `c`; `N` is `a` near `b`, and `O` is `b` near `a` in that order, each within two words; `D` is DEFINESCORE of `m`, as
+/// ten times the number of its occurrences. Behind two parts stand
 /// `&`, `|`, `!` for NOT and `-`; behind one part `*` for a weight of 1.5, `>` for above 1, `S` for within a sentence, `Z` for
 /// within the zone `t`, and `F` for within the first field.
 fn query(alloc: Global, text: &[u8]) -> Result<Flat, Fail> {
@@ -261,28 +269,10 @@ fn query(alloc: Global, text: &[u8]) -> Result<Flat, Fail> {
     }
 }
 
-/// Whether a query has no DEFINESCORE.
-fn is_plain(query: &Flat) -> bool
-    ensures { IsTrue result → IsPlain (reduced_of query.now) }
-{
-    match query {
-        Flat::Term(_) => true,
-        Flat::And(a, b) => is_plain(a) && is_plain(b),
-        Flat::Or(a, b) => is_plain(a) && is_plain(b),
-        Flat::Not(a, b) => is_plain(a) && is_plain(b),
-        Flat::Minus(a, b) => is_plain(a) && is_plain(b),
-        Flat::Weight(_, a) => is_plain(a),
-        Flat::Above(_, a) => is_plain(a),
-        Flat::Near { .. } => true,
-        Flat::Within(_, a) => is_plain(a),
-        Flat::Define(_, _) => false,
-    }
-}
-
 fn cursor(alloc: Global, text: &[u8]) -> Result<Cursor, Fail> {
     let feeds = feeds(alloc)?;
     let query = query(alloc, text)?;
-    if !query.is_sound() || !is_plain(&query) {
+    if !query.is_sound() {
         return Err(Fail::new("no such query"));
     }
     Ok(Cursor::build(alloc, &query, &feeds)?)
@@ -291,7 +281,7 @@ fn cursor(alloc: Global, text: &[u8]) -> Result<Cursor, Fail> {
 fn candidates(alloc: Global, text: &[u8]) -> Result<Candidates, Fail> {
     let feeds = feeds(alloc)?;
     let query = query(alloc, text)?;
-    if !query.is_sound() || !is_plain(&query) {
+    if !query.is_sound() {
         return Err(Fail::new("no such query"));
     }
     Ok(Candidates::build(alloc, &query, &feeds)?)
@@ -428,6 +418,17 @@ const CASES: &[Case] = &[
     Case {
         query: "mZ",
         scored: &[(1, 2)],
+        possible: &[1],
+    },
+    Case {
+        query: "D",
+        scored: &[(1, 30), (2, 10), (4, 10), (5, 10), (LAST, 10)],
+        possible: &[1, 2, 4, 5, LAST],
+    },
+    // in the zone `c` stands at 3 and 4, and `a` at 3
+    Case {
+        query: "DZ",
+        scored: &[(1, 20)],
         possible: &[1],
     },
     // no sentence lies in the zone

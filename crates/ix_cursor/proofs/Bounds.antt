@@ -5,12 +5,9 @@ use Rattle.std.specs.List.{list_any, list_all}
 use Rattle.std.proofs.Math.Bool.{or_assoc}
 use Rattle.std.proofs.lemmas.Bool.{cases_lt, and_left, and_right, and_from, or_from, or_left, or_right}
 use Rattle.ct_base.specs.laws.Bools.{or_false, and_assoc}
-use Rattle.ix_posting.specs.Rows.{WordDocument}
 use Rattle.q_tree.specs.Documents.{put_position, put_all}
-use Rattle.ix_lists.specs.Documents.{places_at}
 use Rattle.ix_lists.specs.Seeking.{BoundsFrom, has_any}
 use Rattle.ix_cursor.specs.Bounding.{later, earlier}
-use Rattle.ix_cursor.specs.Feeding.{union_at}
 
 -- the same test in other words
 pub bound_same : (to : ℕ) (f g : ℕ → Bool) (x : Option ℕ) → ((d : ℕ) → to ≤ d → g d ≡ f d) → BoundsFrom to f x → BoundsFrom to g x
@@ -117,7 +114,7 @@ all_same f (x ∷ xs) (suc i) all = ap (λ b. f x && b) (all_same f xs i (omega 
 pub all_begin : (to : ℕ) → BoundsFrom to (λ d. true) (Some 0)
 all_begin to = (λ d le lt. absurd (omega (arith, lt)), λ le. refl)
 
--- ---- tokens
+-- ---- positions
 
 put_some : (p : ℕ) (qs : List ℕ) → has_any (put_position p qs) ≡ true
 put_some p [] = refl
@@ -128,15 +125,6 @@ put_some p (q ∷ qs) = go (nat_lt p q) (eqb p q)
     go false true = refl
     go false false = refl
 
-put_any : (ps qs : List ℕ) → has_any (put_all ps qs) ≡ (has_any ps || has_any qs)
+pub put_any : (ps qs : List ℕ) → has_any (put_all ps qs) ≡ (has_any ps || has_any qs)
 put_any [] qs = refl
 put_any (p ∷ ps) qs = put_some p (put_all ps qs)
-
-token_whole : (rs : List (List WordDocument)) (i : ℕ) (d : ℕ) → length rs ≤ i → has_any (union_at rs d) ≡ any_first (λ r. has_any (places_at r d)) i rs
-token_whole [] zero d all = refl
-token_whole [] (suc i) d all = refl
-token_whole (r ∷ rs) zero d all = absurd (omega (arith, all))
-token_whole (r ∷ rs) (suc i) d all = put_any (places_at r d) (union_at rs d) ∙ ap (λ b. has_any (places_at r d) || b) (token_whole rs i d (omega (arith, all)))
-
-pub tokens_end : (to : ℕ) (rs : List (List WordDocument)) (i : ℕ) (bound : Option ℕ) → length rs ≤ i → BoundsFrom to (λ d. any_first (λ r. has_any (places_at r d)) i rs) bound → BoundsFrom to (λ d. has_any (union_at rs d)) bound
-tokens_end to rs i bound all h = bound_same to (λ d. any_first (λ r. has_any (places_at r d)) i rs) (λ d. has_any (union_at rs d)) bound (λ d le. token_whole rs i d all) h

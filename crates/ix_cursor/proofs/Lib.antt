@@ -3,6 +3,9 @@ pub mod Within
 pub mod Mixing
 pub mod Ordering
 pub mod Bounds
+pub mod Trees
+pub mod Counting
 pub mod Silent
+pub mod LoneDocument
 pub mod Passed
 pub mod Leaping

@@ -1,16 +1,12 @@
 -- Slots and phrases, one after the other.
 use Rattle.std.proofs.Common.{ℕ, ◌≡◌, List, [], ◌∷◌, ◌++◌, Option, Some, None, set, get_or, zero, suc, refl, ap, ◌∙◌}
-use Rattle.ix_posting.specs.Rows.{WordDocument}
 use Rattle.ix_spans.specs.Occurrences.{Slots}
-use Rattle.ix_spans.specs.Rising.{Rising}
 use Rattle.ix_spans.specs.Slots.{SlotRises, SlotsRise}
-use Rattle.q_tree.specs.Documents.{put_all}
-use Rattle.q_tree.specs.laws.Postings.{put_all_rises}
 use Rattle.ix_cursor.specs.declared.feeds.TokenFeeds.{TokenFeeds}
 use Rattle.ix_cursor.specs.declared.feeds.PhraseFeed.{PhraseFeed}
 use Rattle.ix_cursor.specs.declared.feeds.TermFeed.{TermFeed}
-use Rattle.ix_lists.specs.Documents.{places_at}
-use Rattle.ix_cursor.specs.Feeding.{SlotDocuments, union_at, slot_at, slots_at, phrases_at, term_at, operands_at}
+use Rattle.ix_cursor.specs.Feeding.{SlotDocuments, slot_at, slots_at, phrases_at, term_at, operands_at}
+use Rattle.ix_cursor.proofs.Trees.{tokens_rise}
 
 -- ---- one slot of several
 
@@ -34,15 +30,11 @@ operands_set [] i o x d is h = refl
 operands_set (y ∷ os) zero o x d is h = ap (λ s. s ∷ operands_at os d) (h ∙ ap (λ (w : TermFeed). term_at w d) is)
 operands_set (y ∷ os) (suc i) o x d is h = ap (λ ss. term_at y d ∷ ss) (operands_set os i o x d is h)
 
--- ---- tokens
-
-pub union_rises : (rs : List (List WordDocument)) (d : ℕ) → Rising (union_at rs d)
-union_rises [] d = tt
-union_rises (r ∷ rs) d = put_all_rises (places_at r d) (union_at rs d) (union_rises rs d)
+-- ---- positions rise
 
 pub slot_rises : (o : Option TokenFeeds) (d : ℕ) → SlotRises (slot_at o d)
 slot_rises None d = tt
-slot_rises (Some t) d = union_rises t.tokens.items d
+slot_rises (Some t) d = tokens_rise t.tokens.value d
 
 pub slots_rise : (os : SlotDocuments) (d : ℕ) → SlotsRise (slots_at os d)
 slots_rise [] d = tt
@@ -51,8 +43,3 @@ slots_rise (o ∷ os) d = (slot_rises o d, slots_rise os d)
 pub first_slots_rise : (ss ts : Slots) → SlotsRise (ss ++ ts) → SlotsRise ss
 first_slots_rise [] ts h = tt
 first_slots_rise (s ∷ ss) ts h = (h.0, first_slots_rise ss ts h.1)
-
-pub tokens_set : (rs : List (List WordDocument)) (i : ℕ) (r x : List WordDocument) (d : ℕ) → x ≡ get_or rs i x → places_at r d ≡ places_at x d → union_at (set rs i r) d ≡ union_at rs d
-tokens_set [] i r x d is h = refl
-tokens_set (y ∷ rs) zero r x d is h = ap (λ s. put_all s (union_at rs d)) (h ∙ ap (λ w. places_at w d) is)
-tokens_set (y ∷ rs) (suc i) r x d is h = ap (λ s. put_all (places_at y d) s) (tokens_set rs i r x d is h)

@@ -1,8 +1,12 @@
 pub mod Bounding
+pub mod Distinct
+pub mod Unions
+pub mod Tokens
 pub mod Feeding
 pub mod Seen
 pub mod Nodes
 pub mod Reading
+pub mod Alone
 pub mod Candidates
 pub mod Cursors
 pub mod MayScore

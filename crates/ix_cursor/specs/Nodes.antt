@@ -1,11 +1,11 @@
 -- The scores of a cursor's nodes.
-use Rattle.std.specs.Prelude.{ℕ, ◌≡◌, ◌-◌, ◌≤◌, min, max, Bool, true, false, ◌&&◌, ◌||◌, List, refl}
+use Rattle.std.specs.Prelude.{ℕ, ◌≡◌, ◌-◌, ◌≤◌, min, max, Bool, false, ◌&&◌, ◌||◌, List, refl}
 use Rattle.std.specs.List.{list_all}
 use Rattle.ix_spans.specs.Occurrences.{term_score}
 use Rattle.q_tree.specs.ReducedQueries.{Reduced}
-use Rattle.q_tree.specs.Scores.{DocPostings, score, unless, weighted, if_above, near_score, greatest_within}
+use Rattle.q_tree.specs.Scores.{DocPostings, score, unless, weighted, if_above, near_score, define_score, greatest_within}
 use Rattle.ix_cursor.specs.declared.nodes.Node.{Node}
-use Rattle.ix_cursor.specs.declared.nodes.Node.TheVariants.{Term, And', Or', Not', Minus', Weight', Above', Near, Within', Done}
+use Rattle.ix_cursor.specs.declared.nodes.Node.TheVariants.{Term, And', Or', Not', Minus', Weight', Above', Near, Within', Define, Done}
 use Rattle.ix_lists.specs.Documents.{places_at}
 use Rattle.ix_cursor.specs.Feeding.{phrases_at, operands_at}
 use Rattle.ix_cursor.specs.Seen.{seen_phrases, seen_operands, greatest_inside}
@@ -23,6 +23,7 @@ score_at (Weight' w p a) d lo hi = weighted w (score_at a d lo hi)
 score_at (Above' n p a) d lo hi = if_above n (score_at a d lo hi)
 score_at (Near n) d lo hi = near_score (operands_at n.operands.items d) n.span n.ordered lo hi
 score_at (Within' s p a) d lo hi = greatest_within (λ l h. score_at a d l h) lo hi (places_at s.value.documents d)
+score_at (Define t) d lo hi = define_score (phrases_at t.term.phrases.items d) t.sum lo hi
 score_at Done d lo hi = 0
 
 -- the score of the document that was seen last, within lo to hi
@@ -36,6 +37,7 @@ seen_score (Weight' w p a) lo hi = weighted w (seen_score a lo hi)
 seen_score (Above' n p a) lo hi = if_above n (seen_score a lo hi)
 seen_score (Near n) lo hi = near_score (seen_operands n.operands.items) n.span n.ordered lo hi
 seen_score (Within' s p a) lo hi = greatest_inside lo hi s.value.seen s.value.scores.items
+seen_score (Define t) lo hi = define_score (seen_phrases t.term.phrases.items) t.sum lo hi
 seen_score Done lo hi = 0
 
 -- WHETHER A NODE MAY SCORE in a document, by which documents its slots and sections are in
@@ -49,6 +51,7 @@ may_at (Weight' w p a) d = may_at a d
 may_at (Above' n p a) d = may_at a d
 may_at (Near n) d = list_all may_match (operands_at n.operands.items d)
 may_at (Within' s p a) d = has_any (places_at s.value.documents d) && may_at a d
+may_at (Define t) d = may_match (phrases_at t.term.phrases.items d)
 may_at Done d = false
 
 -- it may score in the documents in which a query over postings and a stream may

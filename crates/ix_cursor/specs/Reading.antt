@@ -5,7 +5,6 @@ use Rattle.std.specs.Prelude.{bytes_eq}
 use Rattle.q_tree.specs.declared.flats.Slot.{Slot}
 use Rattle.q_tree.specs.declared.flats.Slot.TheVariants.{Takes}
 use Rattle.q_tree.specs.Slots.{same_slot}
-use Rattle.q_tree.specs.ReducedQueries.{Reduced, Term, Both, Weight, Above, Near, Within, Define}
 use Rattle.q_tree.specs.Scores.{DocPostings}
 use Rattle.ix_posting.specs.Lists.{posting_list}
 use Rattle.ix_posting.specs.Rows.{DocumentsRise, WordDocument, SpanDocument}
@@ -14,7 +13,7 @@ use Rattle.ix_lists.specs.Documents.{places_at}
 use Rattle.ix_cursor.specs.declared.reading.SlotFeed.{SlotFeed}
 use Rattle.ix_cursor.specs.declared.reading.SectionFeed.{SectionFeed}
 use Rattle.ix_cursor.specs.declared.reading.Feeds.{Feeds}
-use Rattle.ix_cursor.specs.Feeding.{union_at}
+use Rattle.ix_cursor.specs.Unions.{union_at}
 
 -- the rows that were read for each token that a slot takes in a stream; of a slot that wasn't read there are none
 abbrev pub tokens_read : List SlotFeed → ℕ → Slot → List (List (List WordDocument))
@@ -56,16 +55,6 @@ SectionFeedsRise (f ∷ fs) = DocumentsRise pair_form 0 (posting_list f.rows) ×
 pub record FeedsRise (f : Feeds) : Type 0 where
   pub slots : SlotFeedsRise f.slots
   pub sections : SectionFeedsRise f.sections
-
--- a query without DEFINESCORE
-abbrev pub IsPlain : Reduced → Type 0
-IsPlain (Term ps) = Unit {0}
-IsPlain (Both op a b) = IsPlain a × IsPlain b
-IsPlain (Weight w a) = IsPlain a
-IsPlain (Above n a) = IsPlain a
-IsPlain (Near os span ordered) = Unit {0}
-IsPlain (Within place a) = IsPlain a
-IsPlain (Define ps sum) = ⊥
 
 -- ---- computed example: two tokens of a slot, of which one stands at 1 and 4 in the document 2, and the other at 2 and 4
 

@@ -1,19 +1,21 @@
 //! The nodes of a query over what was read for it.
 
-ghost use Rattle.std.specs.Prelude.{◌≡◌, ℕ, IfOk};
-ghost use Rattle.q_tree.specs.ReducedQueries.{reduced_of, Term, Both, Near, Within};
+ghost use Rattle.std.specs.Prelude.{◌≡◌, ℕ, true, IfOk};
+ghost use Rattle.q_tree.specs.ReducedQueries.{reduced_of, Term, Both, Near, Within, Define};
 ghost use Rattle.q_tree.specs.Scores.{operated, slot_positions, phrase_slots, term_slots, operand_slots};
+ghost use Rattle.q_tree.specs.Soundness.{is_sound, is_sum};
 ghost use Rattle.ix_lists.specs.Documents.{places_at};
 ghost use Rattle.ix_cursor.specs.Feeding.{slot_at, slots_at, phrase_at, term_at, operands_at};
 ghost use Rattle.ix_cursor.specs.Nodes.{score_at, may_at, Scores, ScoresWithin, MayScore, MayScoreWithin};
 ghost use Rattle.ix_cursor.specs.MayScore.{may_join};
-ghost use Rattle.ix_cursor.specs.Reading.{IsPlain};
 
-use crate::feeds::{NearFeed, PhraseFeed, SeenSlots, SpanFeed, TermFeed, TokenFeeds};
+use crate::feeds::{NearFeed, PhraseFeed, SeenSlots, SpanFeed, SumFeed, TermFeed, TokenFeeds};
 use crate::nodes::Node;
 use crate::sources::Source;
+use crate::tokens::tokens_of;
 use ct_base::{Memory, Pairs};
-use q_tree::{Flat, Op, Phrase, Phrases, Place, Slot};
+use q_sums::Sum;
+use q_tree::{Flat, Op, Phrase, Phrases, Place, Slot, SumStep};
 use std::alloc::Global;
 
 /// What a slot of a phrase reads.
@@ -30,7 +32,9 @@ fn feed_of_slot<S: Source>(
         Slot::Any => Ok(None),
         Slot::Takes { .. } => {
             let tokens = source.tokens(alloc, stream, slot)?;
-            Ok(Some(TokenFeeds { tokens }))
+            Ok(Some(TokenFeeds {
+                tokens: tokens_of(alloc, tokens)?,
+            }))
         }
     }
 }
@@ -168,6 +172,24 @@ fn build_near<S: Source>(
     )
 }
 
+/// The node of a term whose score is a sum, over a stream.
+fn build_sum<S: Source>(
+    alloc: Global,
+    source: &S,
+    phrases: &[Phrase],
+    sum: &[SumStep],
+    stream: u8,
+) -> Result<Box<Node>, Memory>
+    requires well { S.well source.now }
+    requires sum { is_sum sum.now ≡ true }
+    ensures scores { IfOk result (λ n. Scores n.value (Define phrases.now sum.now) (S.postings source.now) stream) }
+    ensures documents { IfOk result (λ n. MayScore n.value (Define phrases.now sum.now) (S.postings source.now) stream) }
+{
+    let term = feed_of_term(alloc, source, stream, phrases)?;
+    let sum = Sum::of(alloc, sum)?;
+    boxed(alloc, Node::Define(SumFeed { term, sum }))
+}
+
 /// The node of a query over a stream. It goes as deep as the query.
 #[cycle(build)]
 pub(crate) fn build<S: Source>(
@@ -177,7 +199,7 @@ pub(crate) fn build<S: Source>(
     stream: u8,
 ) -> Result<Box<Node>, Memory>
     requires well { S.well source.now }
-    requires plain { IsPlain (reduced_of flat.now) }
+    requires sound { is_sound (reduced_of flat.now) ≡ true }
     ensures scores { IfOk result (λ n. Scores n.value (reduced_of flat.now) (S.postings source.now) stream) }
     ensures documents { IfOk result (λ n. MayScore n.value (reduced_of flat.now) (S.postings source.now) stream) }
 {
@@ -201,7 +223,9 @@ pub(crate) fn build<S: Source>(
             ordered,
         } => build_near(alloc, source, operands.as_slice(), *span, *ordered, stream),
         Flat::Within(place, a) => build_within(alloc, source, place, a, stream),
-        Flat::Define(_, _) => boxed(alloc, Node::Done),
+        Flat::Define(phrases, sum) => {
+            build_sum(alloc, source, phrases.as_slice(), sum.as_slice(), stream)
+        }
     }
 }
 
@@ -216,8 +240,8 @@ fn build_both<S: Source>(
     stream: u8,
 ) -> Result<Box<Node>, Memory>
     requires well { S.well source.now }
-    requires first { IsPlain (reduced_of a.now) }
-    requires second { IsPlain (reduced_of b.now) }
+    requires first { is_sound (reduced_of a.now) ≡ true }
+    requires second { is_sound (reduced_of b.now) ≡ true }
     ensures scores { IfOk result (λ n. Scores n.value (Both op (reduced_of a.now) (reduced_of b.now)) (S.postings source.now) stream) }
     ensures documents { IfOk result (λ n. MayScore n.value (Both op (reduced_of a.now) (reduced_of b.now)) (S.postings source.now) stream) }
 {
@@ -236,7 +260,7 @@ fn build_within<S: Source>(
     stream: u8,
 ) -> Result<Box<Node>, Memory>
     requires well { S.well source.now }
-    requires plain { IsPlain (reduced_of a.now) }
+    requires sound { is_sound (reduced_of a.now) ≡ true }
     ensures scores { IfOk result (λ n. Scores n.value (Within place.now (reduced_of a.now)) (S.postings source.now) stream) }
     ensures documents { IfOk result (λ n. MayScore n.value (Within place.now (reduced_of a.now)) (S.postings source.now) stream) }
 {
@@ -258,7 +282,7 @@ fn build_in_section<S: Source>(
     stream: u8,
 ) -> Result<Box<Node>, Memory>
     requires well { S.well source.now }
-    requires plain { IsPlain (reduced_of a.now) }
+    requires sound { is_sound (reduced_of a.now) ≡ true }
     ensures scores { IfOk result (λ n. ScoresWithin n.value (reduced_of a.now) name.now (S.postings source.now) stream) }
     ensures documents { IfOk result (λ n. MayScoreWithin n.value (reduced_of a.now) name.now (S.postings source.now) stream) }
 {

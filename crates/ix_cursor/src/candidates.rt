@@ -3,7 +3,7 @@
 ghost use Rattle.std.specs.Prelude.{◌≡◌, ◌<◌, ◌^◌, ℕ, true, IfOk};
 ghost use Rattle.q_tree.specs.ReducedQueries.{reduced_of};
 ghost use Rattle.q_tree.specs.Soundness.{is_sound};
-ghost use Rattle.ix_cursor.specs.Reading.{postings_read, FeedsRise, IsPlain};
+ghost use Rattle.ix_cursor.specs.Reading.{postings_read, FeedsRise};
 ghost use Rattle.ix_cursor.specs.Candidates.{ahead, least_ahead, MovesOn, IsLeast, behind_found, Leaps};
 ghost use Rattle.ix_cursor.specs.MayScore.{may_score};
 
@@ -44,11 +44,10 @@ pub(crate) fn first_candidate(
 
 impl Candidates {
     /// The documents in which the query may score, over what was read for it. It decodes no row yet, and shares the rows of the feeds.
-    /// Queries with DEFINESCORE are not taken yet. Its cost is the number of slots of the query times that of the slots that were read; it
-    /// goes as deep as the query.
+    /// Its cost is the number of slots of the query times that of the slots that were read, and the number of their tokens; it goes as deep
+    /// as the query.
     pub fn build(alloc: Global, flat: &Flat, feeds: &Feeds) -> Result<Candidates, Memory>
         requires sound { is_sound (reduced_of flat.now) ≡ true }
-        requires plain { IsPlain (reduced_of flat.now) }
         requires rows { FeedsRise feeds.now }
         ensures { IfOk result (λ c. (d : ℕ) → d < 2 ^ 32 → ahead c d ≡ may_score (reduced_of flat.now) (postings_read feeds.now d) 0) }
     {

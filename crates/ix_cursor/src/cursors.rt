@@ -4,7 +4,7 @@ ghost use Rattle.std.specs.Prelude.{◌≡◌, ◌<◌, ◌^◌, ℕ, true, IfOk
 ghost use Rattle.q_tree.specs.ReducedQueries.{reduced_of};
 ghost use Rattle.q_tree.specs.Soundness.{is_sound};
 ghost use Rattle.q_tree.specs.Scores.{score, last_position};
-ghost use Rattle.ix_cursor.specs.Reading.{postings_read, FeedsRise, IsPlain};
+ghost use Rattle.ix_cursor.specs.Reading.{postings_read, FeedsRise};
 ghost use Rattle.ix_cursor.specs.Cursors.{remaining, present_score, cursor_from, IsFirstScored, from_found, score_found, FindsScored, LeapsOver};
 ghost use Rattle.ix_cursor.specs.Candidates.{Leaps};
 
@@ -69,11 +69,10 @@ fn first_scored(alloc: Global, root: &mut Node, from: u32) -> Result<Option<Scor
 
 impl Cursor {
     /// A cursor before the first document that the query scores, over what was read for it. It decodes no row yet, and shares the rows
-    /// of the feeds. Queries with DEFINESCORE are not taken yet. Its cost is the number of slots of the query times that of the slots that
-    /// were read; it goes as deep as the query.
+    /// of the feeds. Its cost is the number of slots of the query times that of the slots that were read, and the number of their tokens;
+    /// it goes as deep as the query.
     pub fn build(alloc: Global, flat: &Flat, feeds: &Feeds) -> Result<Cursor, Memory>
         requires sound { is_sound (reduced_of flat.now) ≡ true }
-        requires plain { IsPlain (reduced_of flat.now) }
         requires rows { FeedsRise feeds.now }
         ensures start { IfOk result (λ c. present_score c ≡ 0) }
         ensures scores { IfOk result (λ c. (d : ℕ) → d < 2 ^ 32 → remaining c d ≡ score (reduced_of flat.now) (postings_read feeds.now d) 0 1 last_position) }

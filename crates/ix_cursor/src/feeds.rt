@@ -5,21 +5,24 @@ ghost use Rattle.ix_spans.specs.Slots.{SlotsRise};
 ghost use Rattle.ix_spans.specs.Views.{slots_view};
 ghost use Rattle.std.specs.List.{list_all};
 ghost use Rattle.ix_lists.specs.Seeking.{SameFrom, BoundsFrom, has_any};
-ghost use Rattle.ix_cursor.specs.Bounding.{later, earlier};
 ghost use Rattle.ix_lists.specs.Documents.{places_at};
-ghost use Rattle.ix_cursor.specs.Feeding.{union_at, slot_at, slots_at, phrase_at, phrases_at, term_at, operands_at};
+ghost use Rattle.ix_cursor.specs.Feeding.{slot_at, slots_at, phrase_at, phrases_at, term_at, operands_at};
 ghost use Rattle.ix_cursor.specs.MayScore.{may_fit, may_occur, may_match};
-ghost use Rattle.ix_cursor.specs.Passing.{token_passed, slot_passed, phrase_passed, term_passed, section_passed};
+ghost use Rattle.ix_cursor.specs.Passing.{slot_passed, phrase_passed, term_passed, section_passed};
 
+use crate::bounding::{earlier, later};
+use crate::passing::pass_list;
+use crate::tokens::Tokens;
 use ct_base::{Memory, Pair, Pairs};
 use ix_lists::Postings;
+use q_sums::Sum;
 use std::alloc::Global;
 use std::marker::Model;
 
 /// The tokens that a slot takes, each with its documents.
 #[derive(Drop)]
 pub(crate) struct TokenFeeds {
-    pub(crate) tokens: Vec<Postings<u32>>,
+    pub(crate) tokens: Box<Tokens>,
 }
 
 /// The positions that each slot of a phrase takes in one document, rising strictly; None where any key fits. Contracts see them as
@@ -90,46 +93,19 @@ pub(crate) struct NearFeed {
     pub(crate) ordered: bool,
 }
 
+/// A term whose score is a sum over how often it occurs.
+#[derive(Drop)]
+pub(crate) struct SumFeed {
+    pub(crate) term: TermFeed,
+    pub(crate) sum: Sum,
+}
+
 /// The documents of a section, and of the document that was seen last its pairs, each with the score of the part over it.
 #[derive(Drop)]
 pub(crate) struct SpanFeed {
     pub(crate) documents: Postings<Pair>,
     pub(crate) seen: Pairs,
     pub(crate) scores: Vec<u32>,
-}
-
-/// The bound of what needs both.
-pub(crate) fn later(a: Option<u32>, b: Option<u32>) -> Option<u32>
-    ensures { result ≡ later a b }
-{
-    match (a, b) {
-        (Some(x), Some(y)) => Some(x.max(y)),
-        _ => None,
-    }
-}
-
-/// The bound of what needs one of two.
-pub(crate) fn earlier(a: Option<u32>, b: Option<u32>) -> Option<u32>
-    ensures { result ≡ earlier a b }
-{
-    match (a, b) {
-        (Some(x), Some(y)) => Some(x.min(y)),
-        (None, b) => b,
-        (a, None) => a,
-    }
-}
-
-/// Passes the documents before `to` of each token, and gives the first in which one of them is left.
-fn pass_tokens(tokens: &mut [Postings<u32>], alloc: Global, to: u32) -> Result<Option<u32>, Memory>
-    ensures keeps { OnOk result (SameFrom to (union_at tokens.old) (union_at tokens.new)) }
-    ensures passed { OnOk result (list_all (token_passed to) tokens.new ≡ true) }
-    ensures bound { IfOk result (λ bound. BoundsFrom to (λ d. has_any (union_at tokens.new d)) bound) }
-{
-    let mut bound = None;
-    for i in 0..tokens.len() {
-        bound = earlier(bound, tokens[i].skip(alloc, to)?);
-    }
-    Ok(bound)
 }
 
 /// Passes the documents before `to` in a slot, and bounds those in which it may fit.
@@ -141,7 +117,7 @@ fn pass_slot(slot: &mut Option<TokenFeeds>, alloc: Global, to: u32) -> Result<Op
     match slot {
         None => Ok(Some(0)),
         Some(feeds) => {
-            let bound = pass_tokens(&mut feeds.tokens, alloc, to)?;
+            let bound = feeds.tokens.pass(alloc, to)?;
             Ok(bound)
         }
     }
@@ -224,6 +200,6 @@ pub(crate) fn pass_section(
     ensures passed { OnOk result (section_passed to section.new ≡ true) }
     ensures bound { IfOk result (λ bound. BoundsFrom to (λ d. has_any (places_at section.new.documents d)) bound) }
 {
-    let first = section.documents.skip(alloc, to)?;
+    let first = pass_list(&mut section.documents, alloc, to)?;
     Ok(first)
 }

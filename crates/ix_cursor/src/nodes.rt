@@ -6,10 +6,11 @@ ghost use Rattle.ix_lists.specs.Seeking.{BoundsFrom};
 ghost use Rattle.ix_cursor.specs.Passing.{node_passed};
 ghost use Rattle.ix_cursor.specs.Nodes.{score_at, seen_score, may_at, SameScoresFrom, SameDocumentsFrom};
 
-use crate::feeds::{
-    NearFeed, SpanFeed, TermFeed, earlier, later, pass_operands, pass_section, pass_term,
+use crate::bounding::{earlier, later};
+use crate::feeds::{NearFeed, SpanFeed, SumFeed, TermFeed, pass_operands, pass_section, pass_term};
+use crate::scoring::{
+    greatest_inside, if_above, score_near, score_phrases, score_sum, unless, weighted,
 };
-use crate::scoring::{greatest_inside, if_above, score_near, score_phrases, unless, weighted};
 use crate::seeing::{see_operands, see_section, see_term};
 use ct_base::{Memory, Pair};
 use std::alloc::Global;
@@ -26,6 +27,7 @@ pub(crate) enum Node {
     Above(u8, Box<Node>),
     Near(NearFeed),
     Within(Box<SpanFeed>, Box<Node>),
+    Define(SumFeed),
     Done,
 }
 
@@ -88,6 +90,10 @@ impl Node {
                 let second = a.skip(alloc, to)?;
                 Ok(later(first, second))
             }
+            Node::Define(define) => {
+                let bound = pass_term(&mut define.term, alloc, to)?;
+                Ok(bound)
+            }
             Node::Done => Ok(None),
         }
     }
@@ -124,6 +130,7 @@ impl Node {
                 section.scores = a.scores_over(alloc, section.seen.as_slice())?;
                 Ok(())
             }
+            Node::Define(define) => see_term(&mut define.term, alloc, document),
             Node::Done => Ok(()),
         }
     }
@@ -165,6 +172,7 @@ impl Node {
                 let pairs = section.seen.as_slice();
                 Ok(greatest_inside(pairs, section.scores.as_slice(), lo, hi))
             }
+            Node::Define(define) => score_sum(alloc, define, lo, hi),
             Node::Done => Ok(0),
         }
     }

@@ -5,14 +5,15 @@
 //! range around the WITHIN: it is computed once for each pair, when a document is seen, so that the cost of WITHIN in WITHIN is a product
 //! of two numbers of pairs at most, however deep they nest.
 
-ghost use Rattle.std.specs.Prelude.{◌≡◌, ◌++◌, IfOk, OnOk, map};
+ghost use Rattle.std.specs.Prelude.{◌≡◌, ◌++◌, IfOk, OnOk, map, min, length};
 ghost use Rattle.ix_spans.specs.InOrder.{StartsInOrder, EachInOrder, SamePairs, EachSame};
-ghost use Rattle.ix_spans.specs.Occurrences.{term_score, phrase_pairs, term_pairs, phrase_score};
+ghost use Rattle.ix_spans.specs.Occurrences.{distinct, has_pair, same_pair, term_score, phrase_pairs, term_pairs, phrase_score};
 ghost use Rattle.ix_spans.specs.Views.{pairs_view};
-ghost use Rattle.q_tree.specs.Scores.{unless, weighted, if_above, if_near, near_score};
+ghost use Rattle.q_tree.specs.Scores.{define_score, unless, weighted, if_above, if_near, near_score};
+ghost use Rattle.ix_cursor.specs.Distinct.{with_new_pair};
 ghost use Rattle.ix_cursor.specs.Seen.{score_inside, greatest_inside, seen_phrase, seen_phrases, seen_operands};
 
-use crate::feeds::{NearFeed, PhraseFeed, TermFeed};
+use crate::feeds::{NearFeed, PhraseFeed, SumFeed, TermFeed};
 use ct_base::{Memory, Pair};
 use ix_spans::{in_order, inside, near_holds, phrase_pairs, phrase_starts};
 use std::alloc::Global;
@@ -166,4 +167,61 @@ pub(crate) fn score_near(alloc: Global, near: &NearFeed, lo: u32, hi: u32) -> Re
 {
     let pairs = pairs_of_operands(alloc, &near.operands, lo, hi)?;
     Ok(if_near(near_holds(&pairs, near.span as u32, near.ordered)))
+}
+
+/// Puts a pair that isn't among some.
+fn put_new(found: &mut Vec<Pair>, pair: Pair) -> Result<(), Memory>
+    ensures { OnOk result (found.new.items ≡ with_new_pair pair found.old.items) }
+{
+    if !has_pair(found.as_slice(), pair) {
+        found.push(pair)?;
+    }
+    Ok(())
+}
+
+/// Whether two pairs are the same.
+fn same_pair(a: Pair, b: Pair) -> bool
+    ensures { result ≡ same_pair a b }
+{
+    a.first == b.first && a.last == b.last
+}
+
+/// Whether a pair is among some.
+fn has_pair(pairs: &[Pair], pair: Pair) -> bool
+    ensures { result ≡ has_pair pairs.now pair }
+{
+    let mut rest = pairs;
+    while let [first, later @ ..] = rest {
+        if same_pair(*first, pair) {
+            return true;
+        }
+        rest = later;
+    }
+    false
+}
+
+/// How many pairs there are, where equal ones count once, and at most 100. Its cost is a hundred times their number at most.
+fn count_distinct(alloc: Global, pairs: &[Pair]) -> Result<u32, Memory>
+    ensures { IfOk result (λ k. k ≡ min 100 (length (distinct pairs.now))) }
+{
+    let mut found = Vec::new(alloc);
+    let mut left = pairs.len();
+    while left > 0 {
+        if found.len() >= 100 {
+            return Ok(100);
+        }
+        left -= 1;
+        put_new(&mut found, pairs[left])?;
+    }
+    Ok(found.len().min(100) as u32)
+}
+
+/// The score of a term by a sum over how often it occurs within lo to hi. The cost is that of its occurrences, and a hundred times their
+/// number at most.
+pub(crate) fn score_sum(alloc: Global, define: &SumFeed, lo: u32, hi: u32) -> Result<u32, Memory>
+    ensures { IfOk result (λ s. s ≡ define_score (seen_phrases define.now.term.phrases.items) define.now.sum lo hi) }
+{
+    let pairs = pairs_of_phrases(alloc, &define.term.phrases, lo, hi)?;
+    let count = count_distinct(alloc, &pairs)?;
+    define.sum.score(alloc, count)
 }

@@ -1,34 +1,18 @@
 //! What the parts of a query have in one document.
 
 ghost use Rattle.std.specs.Prelude.{◌≡◌, IfOk, OnOk};
-ghost use Rattle.ix_spans.specs.Rising.{Rising};
 ghost use Rattle.ix_spans.specs.Slots.{SlotRises, SlotsRise};
 ghost use Rattle.ix_spans.specs.Views.{slot_view, slots_view};
 ghost use Rattle.ix_lists.specs.Documents.{places_at};
 ghost use Rattle.ix_lists.specs.Seeking.{SameFrom};
-ghost use Rattle.ix_cursor.specs.Feeding.{union_at, slot_at, slots_at, phrase_at, phrases_at, term_at, operands_at};
+ghost use Rattle.ix_cursor.specs.Feeding.{slot_at, slots_at, phrase_at, phrases_at, term_at, operands_at};
 ghost use Rattle.ix_cursor.specs.Seen.{seen_phrase, seen_phrases, seen_term, seen_operands};
 
 use crate::feeds::{PhraseFeed, SeenSlots, SpanFeed, TermFeed, TokenFeeds};
 use ct_base::Memory;
-use ix_lists::Postings;
 use std::alloc::Global;
 
-/// The positions that tokens have in a document, each once and rising. Its cost is the number of positions times that of tokens.
-fn union_of(alloc: Global, tokens: &[Postings<u32>], document: u32) -> Result<Vec<u32>, Memory>
-    ensures positions { IfOk result (λ v. v.items ≡ union_at tokens.now document) }
-    ensures rise { IfOk result (λ v. Rising v.items) }
-{
-    let mut out = Vec::new(alloc);
-    let mut left = tokens.len();
-    while left > 0 {
-        left -= 1;
-        out = tokens[left].merge_at(alloc, document, out)?;
-    }
-    Ok(out)
-}
-
-/// The positions that a slot takes in a document, rising; None where it takes any. The cost is that of `union_of`.
+/// The positions that a slot takes in a document, rising; None where it takes any. The cost is that of `Tokens::positions`.
 fn positions_in(
     alloc: Global,
     slot: &Option<TokenFeeds>,
@@ -40,13 +24,13 @@ fn positions_in(
     match slot {
         None => Ok(None),
         Some(feeds) => {
-            let positions = union_of(alloc, &feeds.tokens, document)?;
+            let positions = feeds.tokens.positions(alloc, document)?;
             Ok(Some(positions))
         }
     }
 }
 
-/// The positions that slots take in a document, rising in each slot. The cost is that of `union_of`, for each slot.
+/// The positions that slots take in a document, rising in each slot. The cost is that of `Tokens::positions`, for each slot.
 fn positions_of(
     alloc: Global,
     slots: &[Option<TokenFeeds>],

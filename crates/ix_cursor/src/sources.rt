@@ -2,7 +2,7 @@
 
 ghost use Rattle.std.specs.Prelude.{◌≡◌, ℕ, IfOk};
 ghost use Rattle.q_tree.specs.Scores.{DocPostings};
-ghost use Rattle.ix_cursor.specs.Feeding.{union_at};
+ghost use Rattle.ix_cursor.specs.Unions.{union_at};
 ghost use Rattle.ix_lists.specs.Documents.{places_at};
 
 use ct_base::{Memory, Pair};

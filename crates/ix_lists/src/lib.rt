@@ -4,4 +4,5 @@
 mod merging;
 mod postings;
 
+pub use merging::merged;
 pub use postings::Postings;

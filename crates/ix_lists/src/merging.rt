@@ -53,7 +53,7 @@ fn merged_slices(alloc: Global, numbers: &[u32], others: &[u32]) -> Result<Vec<u
 }
 
 /// The numbers of two rising lists, rising and each once. Its cost is the length of both, and nothing where the first has none.
-pub(crate) fn merged(alloc: Global, numbers: &[u32], others: Vec<u32>) -> Result<Vec<u32>, Memory>
+pub fn merged(alloc: Global, numbers: &[u32], others: Vec<u32>) -> Result<Vec<u32>, Memory>
     requires rise { Rising numbers.now }
     requires others_rise { Rising others.items }
     ensures { IfOk result (λ v. v.items ≡ put_all numbers.now others.items) }

@@ -176,6 +176,21 @@ impl<P: Place> Postings<P> {
         }
     }
 
+    /// The documents of one row, which is decoded already.
+    pub fn of_row(alloc: Global, row: Row<P>) -> Result<Postings<P>, Memory>
+        ensures { IfOk result (λ p. p ≡ row) }
+    {
+        let _documents = row.documents();
+        Ok(Postings {
+            rows: EncodedRows::of(alloc, Vec::new(alloc))?,
+            place: Progress {
+                row: Some(row),
+                next: 0,
+                taken: 0,
+            },
+        })
+    }
+
     /// Passes the documents before `to`, and gives the first that is left; None where none is. It decodes the rows from the present one on,
     /// as far as one with such a document; after an error it may only be dropped.
     pub fn skip(&mut self, alloc: Global, to: u32) -> Result<Option<u32>, Memory>

@@ -64,7 +64,7 @@ fn row_behind<P: Place>(
 
 /// Rows that the values of entries spell. Where each value spells a row, and documents rise from one row to the next, these are all rows. Of
 /// other entries it gives some rows whose documents rise; the contract doesn't say which. Its cost is the length of the values.
-fn rows_in<P: Place>(
+pub fn rows_in<P: Place>(
     alloc: Global,
     entries: Vec<(Vec<u8>, Vec<u8>)>,
 ) -> Result<Vec<EncodedRow<P>>, Memory>

@@ -50,26 +50,33 @@ use Rattle.ix_context.specs.Limits.{IsWithinLimits}
 use Rattle.q_tree.specs.declared.flats.Slot.{Slot}
 use Rattle.q_tree.specs.declared.flats.Slot.TheVariants.{Any, Takes}
 use Rattle.q_tree.specs.Slots.{same_slot, has_key}
-use Rattle.q_tree.specs.Documents.{put_all, section_pairs}
+use Rattle.ix_spans.specs.Occurrences.{has_number}
+use Rattle.q_tree.specs.Documents.{section_pairs}
 use Rattle.q_tree.specs.Scores.{DocPostings, score, last_position}
 use Rattle.q_tree.specs.Soundness.{is_sound}
 use Rattle.q_tree.specs.ReducedQueries.{Reduced}
 use Rattle.q_tree.specs.laws.SameSlots.{slots_decide}
 use Rattle.ix_lists.specs.Documents.{places_at}
-use Rattle.ix_cursor.specs.Feeding.{union_at}
+use Rattle.ix_cursor.specs.declared.reading.SlotFeed.{SlotFeed}
+use Rattle.ix_cursor.specs.declared.reading.SectionFeed.{SectionFeed}
+use Rattle.ix_cursor.specs.declared.reading.Feeds.{Feeds}
+use Rattle.ix_cursor.specs.Unions.{union_at}
 use Rattle.ix_cursor.specs.Reading.{documents_of, tokens_read, rows_read, postings_read}
 use Rattle.ix_search.specs.declared.wanting.Wanted.{Wanted}
-use Rattle.ix_search.specs.Texts.{doc_sections, scanned_postings}
-use Rattle.ix_search.specs.Parts.{has_keys_alone, keys_of}
+use Rattle.ix_search.specs.Texts.{doc_words, doc_sections, scanned_postings}
+use Rattle.ix_search.specs.Parts.{keys_of, patterns_of}
 use Rattle.ix_rows.specs.Taking.{SpellRows, Hold}
-use Rattle.ix_search.specs.Reading.{KeyRows, NameRows, HoldsKey, HoldsSlot, HoldsName, slot_feed, section_feed, wanted_slots, section_names, feeds_of}
+use Rattle.ix_tokens.specs.Tokens.{KeyRows, HoldsKey}
+use Rattle.ix_search.specs.Reading.{NameRows, HoldsTokens, HoldsName, CanBeRead, AreRowsOfPatterns, AreSlotFeeds, AreFeedsOf, section_feed, wanted_slots, section_names}
 use Rattle.ix_search.specs.Walking.{if_some, AreOneToOne, AreScores}
 use Rattle.ix_search.specs.Finding.{query_score, scored, found, found_at}
-use Rattle.ix_search.specs.laws.Words.{number_turned, union, keys_together, words_rise}
-use Rattle.ix_search.specs.laws.Parts.{SameSlot, SameSection, same_by_parts, parts_so, CanBeRead, parts_read, AnyName}
+use Rattle.ix_search.specs.laws.Words.{number_turned, positions_stand, words_rise}
+use Rattle.ix_search.specs.laws.WordKeys.{word_keys}
+use Rattle.ix_search.specs.laws.Parts.{SameSlot, SameSection, same_by_parts, parts_so, IsSlotPart, parts_read, AnyName}
 use Rattle.ix_search.specs.laws.Wanting.{IsThere, IsAmongNames, parts_there, slots_each, Holds}
 use Rattle.ix_search.specs.laws.Silent.{no_postings, silent_score}
 use Rattle.ix_search.proofs.MappedEntries.{entries_mapped}
+use Rattle.ix_search.proofs.Taken.{slot_positions_read}
 use Rattle.ix_search.proofs.Terms.{any_positions, get-word, get-section}
 
 -- ---- what a document has, by rows and by posting lists
@@ -121,19 +128,33 @@ module _ {P : Type 0} (form : PlaceForm P) where
 
 -- ---- what was read of a slot or a section of the query
 
+-- the tokens read of a slot in a stream: those of its keys, and those of its patterns
+record TokensOf (words : KeyRows) (s : ℕ) (slot : Slot) (read : List (List (List WordDocument))) : Type 0 where
+  by_patterns : List (List (List WordDocument))
+  tokens : read ≡ map (words s) (keys_of slot) ++ by_patterns
+  are : AreRowsOfPatterns words s (patterns_of slot) by_patterns
+
 module _ (words : KeyRows) (P : ℕ → Slot → Type 0) where
-  slot_read : (ws : List Wanted) (s : ℕ) (slot : Slot) → IsThere ws s slot → EachIs (Holds P) ws → (tokens_read (map (slot_feed words) ws) s slot ≡ map (words s) (keys_of slot)) × P s slot
-  slot_read [] s slot there each = cc
-  slot_read (w ∷ ws) s slot there each = go (eqb w.stream s && same_slot w.slot slot) refl there (λ rest. slot_read ws s slot rest each.1)
+  slot_read : (ws : List Wanted) (fs : List SlotFeed) (s : ℕ) (slot : Slot) → AreSlotFeeds words ws fs → IsThere ws s slot → EachIs (Holds P) ws → TokensOf words s slot (tokens_read fs s slot) × P s slot
+  slot_read [] fs s slot are there each = cc
+  slot_read (w ∷ ws) [] s slot are there each = absurd are
+  slot_read (w ∷ ws) (f ∷ fs) s slot are there each =
+      subst (λ (b : Bool). TokensOf words s slot (cond b f.tokens (tokens_read fs s slot)) × P s slot) (sym tests) (go (eqb w.stream s && same_slot w.slot slot) refl there (λ rest. slot_read ws fs s slot are.1 rest each.1))
     where
+      tests : (eqb f.stream s && same_slot f.slot slot) ≡ (eqb w.stream s && same_slot w.slot slot)
+      tests = ap (λ (n : ℕ). eqb n s && same_slot f.slot slot) are.0.stream ∙ ap (λ (x : Slot). eqb w.stream s && same_slot x slot) are.0.slot
+
+      own : TokensOf words w.stream w.slot f.tokens
+      own = record { by_patterns = are.0.by_patterns; tokens = are.0.tokens; are = are.0.are }
+
       go : (b : Bool) → (eqb w.stream s && same_slot w.slot slot) ≡ b → (b || list_any (λ (v : Wanted). eqb v.stream s && same_slot v.slot slot) ws) ≡ true
-          → (IsThere ws s slot → (tokens_read (map (slot_feed words) ws) s slot ≡ map (words s) (keys_of slot)) × P s slot)
-          → (cond b (map (words w.stream) (keys_of w.slot)) (tokens_read (map (slot_feed words) ws) s slot) ≡ map (words s) (keys_of slot)) × P s slot
+          → (IsThere ws s slot → TokensOf words s slot (tokens_read fs s slot) × P s slot)
+          → TokensOf words s slot (cond b f.tokens (tokens_read fs s slot)) × P s slot
       go true is there rest =
           let p = and_parts (eqb w.stream s) (same_slot w.slot slot) is in
           let stream = eqb-true w.stream s p.0 in
           let one = (slots_decide w.slot slot).0 p.1 in (
-            ap (λ (n : ℕ). map (words n) (keys_of w.slot)) stream ∙ ap (λ (x : Slot). map (words s) (keys_of x)) one,
+            subst (λ (x : Slot). TokensOf words s x f.tokens) one (subst (λ (n : ℕ). TokensOf words n w.slot f.tokens) stream own),
             subst (P s) one (subst (λ (n : ℕ). P n w.slot) stream each.0),
           )
       go false is there rest = rest there
@@ -167,10 +188,6 @@ abbrev seen_positions : IndexOf ContextIndex → Option (List ℕ) → ℕ → L
 seen_positions x None s k = []
 seen_positions x (Some text) s k = positions_of s k (document x.prefs (chars text)).words
 
-union_none : (ks : List (List ℕ)) → union (map {B = List ℕ} (λ k. []) ks) ≡ []
-union_none [] = refl
-union_none (k ∷ ks) = union_none ks
-
 module _ (m : Content) (t : Table) (x : IndexOf ContextIndex) (i : List ℕ) (only : HasKeysOnly m) (stand : context_stands (at m) i x t) (fit : IsWithinLimits t x) (prefs : IsPrefs x.prefs) where
   abbrev pub words : KeyRows
   words s k = stand.word_rows (word_term s k)
@@ -203,23 +220,23 @@ module _ (m : Content) (t : Table) (x : IndexOf ContextIndex) (i : List ℕ) (on
       (firsts_of document_number span_row_bytes IsSpanRow (HasPlaces pair_form) (row_laws pair_form) rows are.each) are.rise stand.spans.spelled in
       rows_held pair_form (owner_entries kind.Spans i term m) rows scanned are.each are.rise
 
-  slot_held : (w : Wanted) → Holds CanBeRead w → HoldsSlot m i words w
-  slot_held w is = each_so IsToken (λ k. HoldsKey m i w.stream k (words w.stream k)) (keys_of w.slot) (λ k token. key_held w.stream k is.stream token) is.keys
+  -- THE INDEX HOLDS what queries read
+  pub tokens_held : HoldsTokens m i words
+  tokens_held s low token is = key_held s token low is
 
-  module _ (q : Reduced) (sound : is_sound q ≡ true) (alone : has_keys_alone q ≡ true) where
-    slots_are_read : EachIs (Holds CanBeRead) (wanted_slots q)
-    slots_are_read = slots_each CanBeRead AnyName q 0 [] (parts_read q sound alone 0 (omega arith)) tt
+  module _ (q : Reduced) (sound : is_sound q ≡ true) where
+    slots_are_read : EachIs (Holds IsSlotPart) (wanted_slots q)
+    slots_are_read = slots_each IsSlotPart AnyName q 0 [] (parts_read q sound 0 (omega arith)) tt
 
-    -- THE INDEX HOLDS what the query reads
-    pub slots_held : EachIs (HoldsSlot m i words) (wanted_slots q)
-    slots_held = each_so (Holds CanBeRead) (HoldsSlot m i words) (wanted_slots q) slot_held slots_are_read
+    pub slots_can_be_read : EachIs CanBeRead (wanted_slots q)
+    slots_can_be_read = each_so (Holds IsSlotPart) CanBeRead (wanted_slots q) (λ w is. record { stream = is.stream; keys = is.keys }) slots_are_read
 
     pub names_held : EachIs (HoldsName m i spans) (section_names q)
     names_held = each_all (HoldsName m i spans) (section_names q) name_held
 
     -- ---- the score of a document that is a row
 
-    module _ (named : EachIs IsName (section_names q)) (d : ℕ) (r : ℤ) (here : stand.row d ≡ Some r) where
+    module _ (named : EachIs IsName (section_names q)) (feeds : Feeds) (fed : AreFeedsOf words spans q feeds) (d : ℕ) (r : ℤ) (here : stand.row d ≡ Some r) where
       abbrev seen : Option (List ℕ)
       seen = texts_in t x.column r
 
@@ -239,33 +256,34 @@ module _ (m : Content) (t : Table) (x : IndexOf ContextIndex) (i : List ℕ) (on
               ap (λ (o : Option (List ℕ)). places_in (option_map (documents.document_with d) o)) (get-word s low k token.some x.prefs text)
               ∙ had (positions_of s k (document x.prefs (chars text)).words)
 
-      keys_union : (s : ℕ) (ks : List (List ℕ)) → s ≤ stream_limit → EachIs IsToken ks → union_at (documents_of (map (words s) ks)) d ≡ union (map {B = List ℕ} (λ k. seen_positions x seen s k) ks)
-      keys_union s [] low tokens = refl
-      keys_union s (k ∷ ks) low tokens =
-          ap (λ (ps : List ℕ). put_all ps (union_at (documents_of (map (words s) ks)) d)) (key_places s k low tokens.0)
-          ∙ ap (put_all (seen_positions x seen s k)) (keys_union s ks low tokens.1)
-
       abbrev read : DocPostings
-      read = postings_read (feeds_of words spans q) d
+      read = postings_read feeds d
 
-      slot_agrees : (s : ℕ) (slot : Slot) → CanBeRead s slot → read.positions s slot ≡ union_at (documents_of (map (words s) (keys_of slot))) d → SameSlot read (seen_postings x seen) s slot
-      slot_agrees s Any is same = let wrong = is.some in cc
-      slot_agrees s (Takes keys (p ∷ ps)) is same = let wrong = is.alone in cc
-      slot_agrees s (Takes keys []) is same = same ∙ keys_union s keys is.stream is.keys ∙ by_text seen
+      slot_agrees : (s : ℕ) (slot : Slot) → IsSlotPart s slot → TokensOf words s slot (tokens_read feeds.slots s slot) → SameSlot read (seen_postings x seen) s slot
+      slot_agrees s Any is read_so = let wrong = is.some in cc
+      slot_agrees s (Takes keys patterns) is read_so = ap (λ (tokens : List (List (List WordDocument))). union_at (documents_of tokens) d) read_so.tokens ∙ by_text seen refl
         where
-          by_text : (o : Option (List ℕ)) → union (map {B = List ℕ} (λ k. seen_positions x o s k) keys) ≡ (seen_postings x o).positions s (Takes keys [])
-          by_text None = union_none keys
-          by_text (Some text) = keys_together s keys (document x.prefs (chars text)).words (words_rise x.prefs text)
+          rise : (token : List ℕ) → IsToken token → DocumentsRise number_form 0 (posting_list (words s token))
+          rise token of = (key_held s token is.stream of).hold.rise
+
+          places : (o : Option (List ℕ)) → seen ≡ o → (token : List ℕ) (n : ℕ) → IsToken token → has_number (places_at (posting_list (words s token)) d) n ≡ has_number (seen_positions x o s token) n
+          places o here token n of = ap (λ (ps : List ℕ). has_number ps n) (key_places s token is.stream of ∙ ap (λ (o : Option (List ℕ)). seen_positions x o s token) here)
+
+          by_text : (o : Option (List ℕ)) → seen ≡ o → union_at (documents_of (map (words s) keys ++ read_so.by_patterns)) d ≡ (seen_postings x o).positions s (Takes keys patterns)
+          by_text None here = slot_positions_read words s d [] tt tt rise (places None here) keys patterns is.keys read_so.by_patterns read_so.are
+          by_text (Some text) here =
+              slot_positions_read words s d (doc_words (document x.prefs (chars text)).words) (words_rise x.prefs text) (word_keys x.prefs text (fit.utf8 r text here)) rise
+              (λ token n of. places (Some text) here token n of ∙ positions_stand s token (document x.prefs (chars text)).words n) keys patterns is.keys read_so.by_patterns read_so.are
 
       slot_same : (s : ℕ) (slot : Slot) → IsThere (wanted_slots q) s slot → SameSlot read (seen_postings x seen) s slot
       slot_same s slot there =
-          let p = slot_read words CanBeRead (wanted_slots q) s slot there slots_are_read in
-          slot_agrees s slot p.1 (ap (λ (tokens : List (List (List WordDocument))). union_at (documents_of tokens) d) p.0)
+          let p = slot_read words IsSlotPart (wanted_slots q) feeds.slots s slot fed.slots there slots_are_read in
+          slot_agrees s slot p.1 p.0
 
       section_same : (name : List ℕ) → IsAmongNames (section_names q) name → SameSection read (seen_postings x seen) name
       section_same name there =
           let p = section_read spans (section_names q) name there named in
-          ap (λ (rows : List (List SpanDocument)). places_at (posting_list rows) d) p.0
+          ap (λ (rows : List (List SpanDocument)). places_at (posting_list rows) d) (ap (λ (fs : List SectionFeed). rows_read fs name) fed.sections ∙ p.0)
           ∙ places_are (posting_list (spans name)) d
           ∙ ap places_in (stand.spans.lists.exact (section_term name) d r (name, p.1, refl) here)
           ∙ by_text seen refl
@@ -283,7 +301,7 @@ module _ (m : Content) (t : Table) (x : IndexOf ContextIndex) (i : List ℕ) (on
       -- THE SCORE of what was read is that of the text
       read_score : score q read 0 1 last_position ≡ score q (seen_postings x seen) 0 1 last_position
       read_score = same_by_parts read (seen_postings x seen) q 0
-          (parts_so (IsThere (wanted_slots q)) (SameSlot read (seen_postings x seen)) slot_same (IsAmongNames (section_names q)) (SameSection read (seen_postings x seen)) section_same q 0 (parts_there q 0 [] [] alone)) 1 last_position
+          (parts_so (IsThere (wanted_slots q)) (SameSlot read (seen_postings x seen)) slot_same (IsAmongNames (section_names q)) (SameSection read (seen_postings x seen)) section_same q 0 (parts_there q 0 [] [])) 1 last_position
 
     -- ---- the rows of documents
 
@@ -326,8 +344,8 @@ module _ (m : Content) (t : Table) (x : IndexOf ContextIndex) (i : List ℕ) (on
         go None = refl
         go (Some text) = above (nat_lt 0 (query_score x.prefs q text)) (query_score x.prefs q text)
 
-    module _ (named : EachIs IsName (section_names q)) (document_score : ℕ → ℕ) (scores : Rows ℕ)
-        (built : (d : ℕ) → d < 2 ^ 32 → document_score d ≡ score q (postings_read (feeds_of words spans q) d) 0 1 last_position)
+    module _ (named : EachIs IsName (section_names q)) (feeds : Feeds) (fed : AreFeedsOf words spans q feeds) (document_score : ℕ → ℕ) (scores : Rows ℕ)
+        (built : (d : ℕ) → d < 2 ^ 32 → document_score d ≡ score q (postings_read feeds d) 0 1 last_position)
         (are : AreScores (row_at_document (at m) i) document_score scores) where
       right_scores : (r : ℤ) → get scores r ≡ option_and_then (scored_as r) (get x.body.marks r)
       right_scores r = by_document (stand.document r) refl
@@ -338,7 +356,7 @@ module _ (m : Content) (t : Table) (x : IndexOf ContextIndex) (i : List ℕ) (on
           unmarked (Some (Settled _)) h = cc
 
           by_text : (o : Option (List ℕ)) → if_some (score q (seen_postings x o) 0 1 last_position) ≡ option_and_then (λ text. if_some (query_score x.prefs q text)) o
-          by_text None = ap if_some (silent_score q sound alone 0 1 last_position)
+          by_text None = ap if_some (silent_score q sound 0 1 last_position)
           by_text (Some text) = refl
 
           marked : (o : Option (Mark (Unit {0}))) → is_settled o ≡ true → option_and_then (λ text. if_some (query_score x.prefs q text)) (texts_in t x.column r) ≡ option_and_then (scored_as r) o
@@ -359,7 +377,7 @@ module _ (m : Content) (t : Table) (x : IndexOf ContextIndex) (i : List ℕ) (on
               let numbers = fit.numbers in
               let low : d < 2 ^ 32 = omega (arith, within.1, numbers) in
               are.rows d r low (document_found d low ∙ row)
-              ∙ ap if_some (built d low ∙ read_score named d r row)
+              ∙ ap if_some (built d low ∙ read_score named feeds fed d r row)
               ∙ by_text (texts_in t x.column r)
               ∙ marked (get x.body.marks r) (sym (stand.documents.numbers.marked r) ∙ ap is_some is)
 

@@ -21,8 +21,7 @@ use Rattle.ix_cursor.specs.Reading.{postings_read}
 use Rattle.ix_cursor.specs.MayScore.{may_score}
 use Rattle.ix_cursor.specs.laws.Unscored.{unscored}
 use Rattle.ix_search.specs.declared.gathering.Gathered.{Gathered}
-use Rattle.ix_search.specs.Parts.{has_keys_alone}
-use Rattle.ix_search.specs.Reading.{section_names, feeds_of}
+use Rattle.ix_search.specs.Reading.{section_names, AreFeedsOf}
 use Rattle.ix_search.specs.Walking.{if_some, AreOneToOne, AreScores}
 use Rattle.ix_search.specs.Gathering.{Documents, AreRowsOfDocuments, gathered_score, GivesRows}
 use Rattle.ix_search.specs.Finding.{found}
@@ -62,20 +61,19 @@ module _ (row : ℕ → Option ℤ) (may : ℕ → Bool) (rows : Documents ℤ) 
 
 -- WHAT WAS GATHERED of an index that stands gives what the query finds
 pub gives_found : (m : Content) (t : Table) (x : IndexOf ContextIndex) (i : List ℕ) (only : HasKeysOnly m) (stand : context_stands (at m) i x t) (fit : IsWithinLimits t x) (prefs : IsPrefs x.prefs)
-    (q : Reduced) (sound : is_sound q ≡ true) (alone : has_keys_alone q ≡ true) (named : EachIs IsName (section_names q)) (may : ℕ → Bool) (feeds : Feeds) (rows : Documents ℤ) (g : Gathered)
-    → feeds ≡ feeds_of (words m t x i only stand fit prefs) (spans m t x i only stand fit prefs) q
+    (q : Reduced) (sound : is_sound q ≡ true) (named : EachIs IsName (section_names q)) (may : ℕ → Bool) (feeds : Feeds) (rows : Documents ℤ) (g : Gathered)
+    → AreFeedsOf (words m t x i only stand fit prefs) (spans m t x i only stand fit prefs) q feeds
     → ((d : ℕ) → d < 2 ^ 32 → may d ≡ may_score q (postings_read feeds d) 0) → AreRowsOfDocuments (row_at_document (at m) i) may rows
     → reduced_of g.flat.now ≡ q → g.feeds ≡ feeds → g.rows ≡ rows → GivesRows g (found t x q 0)
-gives_found m t x i only stand fit prefs q sound alone named may feeds rows g read built are same_query same_feeds same_rows =
-    let here : Feeds = feeds_of (words m t x i only stand fit prefs) (spans m t x i only stand fit prefs) q in
-    let one = one_to_one m t x i only stand fit prefs q sound alone in
+gives_found m t x i only stand fit prefs q sound named may feeds rows g fed built are same_query same_feeds same_rows =
+    let one = one_to_one m t x i only stand fit prefs q sound in
     let mine : AreRowsOfDocuments (row_at_document (at m) i) may g.rows = subst (AreRowsOfDocuments (row_at_document (at m) i) may) (sym same_rows) are in
-    let score_as : (d : ℕ) → gathered_score g d ≡ score q (postings_read here d) 0 1 last_position =
-    λ d. ap (λ (f : Reduced). score f (postings_read g.feeds d) 0 1 last_position) same_query ∙ ap (λ (f : Feeds). score q (postings_read f d) 0 1 last_position) (same_feeds ∙ read) in
+    let score_as : (d : ℕ) → gathered_score g d ≡ score q (postings_read feeds d) 0 1 last_position =
+    λ d. ap (λ (f : Reduced). score f (postings_read g.feeds d) 0 1 last_position) same_query ∙ ap (λ (f : Feeds). score q (postings_read f d) 0 1 last_position) same_feeds in
     let silent : (d : ℕ) → may d ≡ false → d < 2 ^ 32 → gathered_score g d ≡ 0 =
-    λ d apart low. score_as d ∙ unscored q (postings_read here d) 0 (sym (ap (λ (f : Feeds). may_score q (postings_read f d) 0) read) ∙ sym (built d low) ∙ apart) 1 last_position in
+    λ d apart low. score_as d ∙ unscored q (postings_read feeds d) 0 (sym (built d low) ∙ apart) 1 last_position in
     record {
       one = own_rows (row_at_document (at m) i) may g.rows mine one;
       scores = λ scores these.
-          finds m t x i only stand fit prefs q sound alone named (gathered_score g) scores (λ d low. score_as d) (scores_of_all (row_at_document (at m) i) may g.rows mine one (gathered_score g) silent scores these);
+          finds m t x i only stand fit prefs q sound named feeds fed (gathered_score g) scores (λ d low. score_as d) (scores_of_all (row_at_document (at m) i) may g.rows mine one (gathered_score g) silent scores these);
     }

@@ -3,7 +3,9 @@ pub mod WalkSteps
 pub mod MappedEntries
 pub mod FoundLaws
 pub mod Terms
+pub mod Taken
 pub mod Found
 pub mod LookSteps
+pub mod FewLooks
 pub mod MapSteps
 pub mod Giving

@@ -1,50 +1,80 @@
 -- How much the reading of a query's rows looks at.
-use Rattle.std.specs.Prelude.{ℕ, ◌≡◌, ◌+◌, ◌≤◌, List, [], ◌∷◌, ◌++◌, codes, refl}
+use Rattle.std.specs.Prelude.{ℕ, ◌≡◌, ◌+◌, sum_by, List, [], ◌∷◌, ◌++◌, length, codes, refl}
 use Rattle.ct_keep.specs.Content.{Content}
 use Rattle.ct_keep.specs.KeeperViews.{Counts}
 use Rattle.ct_keep.specs.Looks.{no_looks, plus, scan_looks}
 use Rattle.ct_entry.specs.declared.kinds.Kind.TheVariants as kind
 use Rattle.ct_entry.specs.Keys.{prefix_of}
-use Rattle.ix_rows.specs.WordRows.{word_term}
-use Rattle.ix_rows.specs.SpanRows.{section_term}
+use Rattle.ct_entry.specs.Listings.{owner_entries}
+use Rattle.q_tree.specs.declared.flats.PatternBit.{PatternBit}
 use Rattle.q_tree.specs.declared.flats.Slot.TheVariants.{Any}
 use Rattle.q_tree.specs.ReducedQueries.{Reduced, Term}
 use Rattle.ix_search.specs.declared.wanting.Wanted.{Wanted}
-use Rattle.ix_search.specs.Parts.{keys_of}
+use Rattle.ix_rows.specs.SpanRows.{section_term}
+use Rattle.ix_tokens.specs.Looking.{key_looks, key_rows, pattern_looks, pattern_rows}
+use Rattle.ix_tokens.specs.Promises.{AreFewLooks}
+use Rattle.ix_search.specs.Parts.{keys_of, patterns_of}
 use Rattle.ix_search.specs.Reading.{wanted_slots, section_names}
 
--- a scan of the rows of a key in a stream, and of those of a section
-abbrev pub key_looks : Content → List ℕ → ℕ → List ℕ → Counts
-key_looks m i stream key = scan_looks (prefix_of kind.Postings i ++ word_term stream key) m
+-- ---- by scans
 
+-- a scan of the rows of a section
 abbrev pub name_looks : Content → List ℕ → List ℕ → Counts
 name_looks m i name = scan_looks (prefix_of kind.Spans i ++ section_term name) m
 
--- of each of some keys, of the keys of each of some slots, and of each of some sections
+-- of each of some keys and patterns, of those of each of some slots, and of each of some sections
 abbrev pub keys_looks : Content → List ℕ → ℕ → List (List ℕ) → Counts
 keys_looks m i stream [] = no_looks
 keys_looks m i stream (k ∷ ks) = plus (key_looks m i stream k) (keys_looks m i stream ks)
 
+abbrev pub patterns_looks : Content → List ℕ → ℕ → List (List PatternBit) → Counts
+patterns_looks m i stream [] = no_looks
+patterns_looks m i stream (p ∷ ps) = plus (pattern_looks m i stream p) (patterns_looks m i stream ps)
+
+abbrev pub slot_looks : Content → List ℕ → Wanted → Counts
+slot_looks m i w = plus (keys_looks m i w.stream (keys_of w.slot)) (patterns_looks m i w.stream (patterns_of w.slot))
+
 abbrev pub slots_looks : Content → List ℕ → List Wanted → Counts
 slots_looks m i [] = no_looks
-slots_looks m i (w ∷ ws) = plus (keys_looks m i w.stream (keys_of w.slot)) (slots_looks m i ws)
+slots_looks m i (w ∷ ws) = plus (slot_looks m i w) (slots_looks m i ws)
 
 abbrev pub names_looks : Content → List ℕ → List (List ℕ) → Counts
 names_looks m i [] = no_looks
 names_looks m i (n ∷ ns) = plus (name_looks m i n) (names_looks m i ns)
 
--- WHAT A QUERY LOOKS AT: one scan for each key of each of its slots, where equal slots of a stream count once, and one for each of its sections
+-- WHAT A QUERY LOOKS AT: one scan for each key of each of its slots, where equal slots of a stream count once, those of each of their patterns, and one for each of its sections
 abbrev pub query_looks : Content → List ℕ → Reduced → Counts
 query_looks m i q = plus (slots_looks m i (wanted_slots q)) (names_looks m i (section_names q))
 
--- What is still to be looked at is within what all may add.
-pub record LooksLeft (rest all old now : Counts) : Type 0 where
-  pub texts : now.texts + rest.texts ≤ old.texts + all.texts
-  pub rows : now.rows + rest.rows ≤ old.rows + all.rows
-  pub rules : now.rules + rest.rules ≤ old.rules + all.rules
+-- ---- by rows
+
+-- of each key one look-up more than it has rows, and of each pattern 256 more than the tokens have that begin with its leading literal
+abbrev pub keys_allowance : Content → List ℕ → ℕ → List (List ℕ) → ℕ
+keys_allowance m i stream keys = sum_by (λ key. 1 + key_rows m i stream key) keys
+
+abbrev pub patterns_allowance : Content → List ℕ → ℕ → List (List PatternBit) → ℕ
+patterns_allowance m i stream ps = sum_by (λ p. 256 + pattern_rows m i stream p) ps
+
+abbrev pub slot_allowance : Content → List ℕ → Wanted → ℕ
+slot_allowance m i w = keys_allowance m i w.stream (keys_of w.slot) + patterns_allowance m i w.stream (patterns_of w.slot)
+
+-- how many rows a section has
+abbrev pub name_rows : Content → List ℕ → List ℕ → ℕ
+name_rows m i name = length (owner_entries kind.Spans i (section_term name) m)
+
+-- HOW MANY ROWS A QUERY MAY LOOK UP: so many for each slot of each stream, and of each section one more than it has rows
+abbrev pub query_allowance : Content → List ℕ → Reduced → ℕ
+query_allowance m i q = sum_by (slot_allowance m i) (wanted_slots q) + sum_by (λ name. 1 + name_rows m i name) (section_names q)
+
+-- EACH QUERY looks up no more rows than it may, and no text.
+abbrev pub QueriesLookFew : Type 0
+QueriesLookFew = (m : Content) (i : List ℕ) (q : Reduced) → AreFewLooks (query_allowance m i q) (query_looks m i q)
 
 -- ---- computed examples
 
 -- a slot that takes any word is looked for nowhere
 any_is_not_read : (m : Content) → query_looks m (codes "di") (Term ((Any ∷ []) ∷ [])) ≡ no_looks
 any_is_not_read m = refl
+
+any_costs_nothing : (m : Content) → query_allowance m (codes "di") (Term ((Any ∷ []) ∷ [])) ≡ 0
+any_costs_nothing m = refl

@@ -1,43 +1,24 @@
 -- What a query asks of an index: slots in streams, and sections.
-use Rattle.std.specs.Prelude.{ℕ, ◌≡◌, Bool, true, false, ◌&&◌, List, [], ◌∷◌, codes, refl}
-use Rattle.std.specs.List.{list_all}
+use Rattle.std.specs.Prelude.{ℕ, ◌≡◌, List, [], ◌∷◌, codes, refl}
 use Rattle.ct_entry.specs.Lists.{EachIs}
 use Rattle.q_tree.specs.declared.flats.Slot.{Slot}
 use Rattle.q_tree.specs.declared.flats.Slot.TheVariants.{Any, Takes}
 use Rattle.q_tree.specs.declared.flats.PatternBit.{PatternBit}
+use Rattle.q_tree.specs.declared.flats.PatternBit.TheVariants.{Many}
 use Rattle.q_tree.specs.declared.flats.Place.TheVariants.{Zone, Field, Sentence, Paragraph}
 use Rattle.q_tree.specs.ReducedQueries.{Reduced, Term, Both, Weight, Above, Near, Within, Define}
 
--- ---- queries that only keys are read for
-
-abbrev pub is_none : List (List PatternBit) → Bool
-is_none [] = true
-is_none (p ∷ ps) = false
-
-abbrev pub slot_has_keys_alone : Slot → Bool
-slot_has_keys_alone Any = true
-slot_has_keys_alone (Takes keys patterns) = is_none patterns
-
-abbrev pub phrase_has_keys_alone : List Slot → Bool
-phrase_has_keys_alone = list_all slot_has_keys_alone
-
-abbrev pub term_has_keys_alone : List (List Slot) → Bool
-term_has_keys_alone = list_all phrase_has_keys_alone
-
--- NO SLOT HAS A PATTERN, and there is no DEFINESCORE
-abbrev pub has_keys_alone : Reduced → Bool
-has_keys_alone (Term phrases) = term_has_keys_alone phrases
-has_keys_alone (Both op a b) = has_keys_alone a && has_keys_alone b
-has_keys_alone (Weight w a) = has_keys_alone a
-has_keys_alone (Above n a) = has_keys_alone a
-has_keys_alone (Near operands span ordered) = list_all term_has_keys_alone operands
-has_keys_alone (Within place a) = has_keys_alone a
-has_keys_alone (Define phrases sum) = false
+-- ---- slots
 
 -- the keys of a slot
 abbrev pub keys_of : Slot → List (List ℕ)
 keys_of Any = []
 keys_of (Takes keys patterns) = keys
+
+-- its patterns
+abbrev pub patterns_of : Slot → List (List PatternBit)
+patterns_of Any = []
+patterns_of (Takes keys patterns) = patterns
 
 -- ---- facts of all parts of a query
 
@@ -72,11 +53,8 @@ OfParts P Q (Define phrases sum) s = OfTerm P s phrases
 abbrev fox : Slot
 fox = Takes (codes "fox" ∷ []) []
 
-a_key_alone : has_keys_alone (Within Sentence (Term ((fox ∷ Any ∷ fox ∷ []) ∷ []))) ≡ true
-a_key_alone = refl
-
-a_pattern : has_keys_alone (Term ((Takes [] ([] ∷ []) ∷ []) ∷ [])) ≡ false
-a_pattern = refl
+its_pattern : patterns_of (Takes [] ((Many ∷ []) ∷ [])) ≡ (Many ∷ []) ∷ []
+its_pattern = refl
 
 in_a_field : (P : ℕ → Slot → Type 0) (Q : List ℕ → Type 0) → OfParts P Q (Within (Field 3) (Term ((fox ∷ []) ∷ []))) 0 → P 3 fox
 in_a_field P Q h = h.0.0

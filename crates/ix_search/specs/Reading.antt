@@ -1,5 +1,6 @@
 -- What is read of an index for a query.
-use Rattle.std.specs.Prelude.{ℕ, ◌≡◌, List, [], map, refl}
+use Rattle.std.specs.Prelude.{ℕ, ◌≡◌, ◌≤◌, List, [], ◌∷◌, ◌++◌, map, refl}
+use Rattle.ct_base.specs.Limits.{stream_limit}
 use Rattle.ct_base.specs.Names.{IsName}
 use Rattle.ct_keep.specs.Content.{Content}
 use Rattle.ct_entry.specs.declared.kinds.Kind.TheVariants as kind
@@ -7,43 +8,55 @@ use Rattle.ct_entry.specs.Keys.{IsToken}
 use Rattle.ct_entry.specs.Lists.{EachIs}
 use Rattle.ct_entry.specs.Listings.{owner_entries}
 use Rattle.ix_posting.specs.Rows.{WordDocument, SpanDocument}
-use Rattle.ix_rows.specs.Taking.{Hold}
-use Rattle.ix_rows.specs.WordRows.{word_term}
 use Rattle.ix_rows.specs.SpanRows.{section_term}
-use Rattle.ix_posting.specs.Forms.{number_form, pair_form}
+use Rattle.ix_posting.specs.Forms.{pair_form}
+use Rattle.q_tree.specs.declared.flats.PatternBit.{PatternBit}
 use Rattle.q_tree.specs.declared.flats.Slot.TheVariants.{Any}
 use Rattle.q_tree.specs.ReducedQueries.{Reduced}
 use Rattle.ix_cursor.specs.declared.reading.SlotFeed.{SlotFeed}
 use Rattle.ix_cursor.specs.declared.reading.SectionFeed.{SectionFeed}
 use Rattle.ix_cursor.specs.declared.reading.Feeds.{Feeds}
 use Rattle.ix_search.specs.declared.wanting.Wanted.{Wanted}
-use Rattle.ix_search.specs.Parts.{keys_of}
+use Rattle.ix_search.specs.Parts.{keys_of, patterns_of}
 use Rattle.ix_search.specs.Wanting.{with_slots, with_names}
+use Rattle.ix_rows.specs.Taking.{Hold}
+use Rattle.ix_tokens.specs.Tokens.{KeyRows, HoldsKey, HoldsStream, AreMatchingRows}
 
--- rows of each key in each stream, and of each section
-abbrev pub KeyRows : Type 0
-KeyRows = ℕ → List ℕ → List (List WordDocument)
-
+-- rows of each section; those of each token are in `Tokens.antt` of `ix_tokens`
 abbrev pub NameRows : Type 0
 NameRows = List ℕ → List (List SpanDocument)
 
--- the content holds these rows of a key in a stream, where the key is one
-pub record HoldsKey (m : Content) (i : List ℕ) (stream : ℕ) (key : List ℕ) (rows : List (List WordDocument)) : Type 0 where
-  pub token : IsToken key
-  pub hold : Hold number_form (owner_entries kind.Postings i (word_term stream key) m) rows
-
--- of each key of a slot
-abbrev pub HoldsSlot : Content → List ℕ → KeyRows → Wanted → Type 0
-HoldsSlot m i held w = EachIs (λ key. HoldsKey m i w.stream key (held w.stream key)) (keys_of w.slot)
+-- the content holds these rows of each token in each stream
+abbrev pub HoldsTokens : Content → List ℕ → KeyRows → Type 0
+HoldsTokens m i held = (stream : ℕ) → stream ≤ stream_limit → HoldsStream m i stream held
 
 -- of a section
 abbrev pub HoldsName : Content → List ℕ → NameRows → List ℕ → Type 0
 HoldsName m i held name = IsName name → Hold pair_form (owner_entries kind.Spans i (section_term name) m) (held name)
 
--- what is read of a slot, and of a section
-abbrev pub slot_feed : KeyRows → Wanted → SlotFeed
-slot_feed held w = record { stream = w.stream; slot = w.slot; tokens = map (held w.stream) (keys_of w.slot) }
+-- ---- what is read
 
+-- the rows of the tokens that some patterns take, pattern by pattern
+abbrev pub AreRowsOfPatterns : KeyRows → ℕ → List (List PatternBit) → List (List (List WordDocument)) → Type 0
+AreRowsOfPatterns held stream [] all = all ≡ []
+AreRowsOfPatterns held stream (p ∷ ps) all = (first : List (List (List WordDocument))) × (rest : List (List (List WordDocument))) × (all ≡ first ++ rest) × AreMatchingRows held stream p first × AreRowsOfPatterns held stream ps rest
+
+-- WHAT IS READ OF A SLOT in its stream: the rows of each of its keys, and each row of the tokens that its patterns take.
+pub record IsSlotFeed (held : KeyRows) (w : Wanted) (f : SlotFeed) : Type 0 where
+  pub stream : f.stream ≡ w.stream
+  pub slot : f.slot ≡ w.slot
+  pub by_patterns : List (List (List WordDocument))
+  pub tokens : f.tokens ≡ map (held w.stream) (keys_of w.slot) ++ by_patterns
+  pub are : AreRowsOfPatterns held w.stream (patterns_of w.slot) by_patterns
+
+-- of each of some slots
+abbrev pub AreSlotFeeds : KeyRows → List Wanted → List SlotFeed → Type 0
+AreSlotFeeds held [] [] = Unit {0}
+AreSlotFeeds held [] (f ∷ fs) = ⊥
+AreSlotFeeds held (w ∷ ws) [] = ⊥
+AreSlotFeeds held (w ∷ ws) (f ∷ fs) = IsSlotFeed held w f × AreSlotFeeds held ws fs
+
+-- of a section
 abbrev pub section_feed : NameRows → List ℕ → SectionFeed
 section_feed held name = record { section = name; rows = held name }
 
@@ -55,8 +68,9 @@ abbrev pub section_names : Reduced → List (List ℕ)
 section_names f = with_names f []
 
 -- WHAT IS READ FOR A QUERY, by the rows that there are
-abbrev pub feeds_of : KeyRows → NameRows → Reduced → Feeds
-feeds_of words spans f = record { slots = map (slot_feed words) (wanted_slots f); sections = map (section_feed spans) (section_names f) }
+pub record AreFeedsOf (words : KeyRows) (spans : NameRows) (q : Reduced) (feeds : Feeds) : Type 0 where
+  pub slots : AreSlotFeeds words (wanted_slots q) feeds.slots
+  pub sections : feeds.sections ≡ map (section_feed spans) (section_names q)
 
 -- ---- what was read, by the rows that the content holds
 
@@ -64,9 +78,14 @@ feeds_of words spans f = record { slots = map (slot_feed words) (wanted_slots f)
 abbrev pub AreRowsOfKeys : Content → List ℕ → ℕ → List (List ℕ) → List (List (List WordDocument)) → Type 0
 AreRowsOfKeys m i stream keys rows = (held : List ℕ → List (List WordDocument)) → EachIs (λ key. HoldsKey m i stream key (held key)) keys → rows ≡ map held keys
 
+-- keys of 1 to 255 bytes, in a stream that there is
+pub record CanBeRead (w : Wanted) : Type 0 where
+  pub stream : w.stream ≤ stream_limit
+  pub keys : EachIs IsToken (keys_of w.slot)
+
 -- of each of some slots
 abbrev pub AreFeedsOfSlots : Content → List ℕ → List Wanted → List SlotFeed → Type 0
-AreFeedsOfSlots m i slots feeds = (held : KeyRows) → EachIs (HoldsSlot m i held) slots → feeds ≡ map (slot_feed held) slots
+AreFeedsOfSlots m i slots feeds = (held : KeyRows) → HoldsTokens m i held → EachIs CanBeRead slots → AreSlotFeeds held slots feeds
 
 -- of each of some sections
 abbrev pub AreFeedsOfSections : Content → List ℕ → List (List ℕ) → List SectionFeed → Type 0
@@ -75,8 +94,8 @@ AreFeedsOfSections m i names feeds = (held : NameRows) → EachIs (HoldsName m i
 -- and of a query
 abbrev pub AreFeedsOfQuery : Content → List ℕ → Reduced → Feeds → Type 0
 AreFeedsOfQuery m i q feeds =
-    (words : KeyRows) (spans : NameRows) → EachIs (HoldsSlot m i words) (wanted_slots q) → EachIs (HoldsName m i spans) (section_names q) → feeds ≡ feeds_of words spans q
+    (words : KeyRows) (spans : NameRows) → HoldsTokens m i words → EachIs CanBeRead (wanted_slots q) → EachIs (HoldsName m i spans) (section_names q) → AreFeedsOf words spans q feeds
 
--- computed example: a slot that takes any word has no rows
-of_any_word : (held : KeyRows) → slot_feed held (record { stream = 0; slot = Any }) ≡ record { stream = 0; slot = Any; tokens = [] }
-of_any_word held = refl
+-- computed example: of a slot that takes any word nothing is read
+of_any_word : (held : KeyRows) → IsSlotFeed held (record { stream = 0; slot = Any }) (record { stream = 0; slot = Any; tokens = [] })
+of_any_word held = record { stream = refl; slot = refl; by_patterns = []; tokens = refl; are = refl }

@@ -10,11 +10,11 @@ use Rattle.tx_settings.specs.declared.preferences.Prefs.{Prefs}
 use Rattle.tx_settings.specs.Defaults.{plain}
 use Rattle.tx_document.specs.declared.views.WordView.{WordView}
 use Rattle.tx_document.specs.declared.views.SectionView.{SectionView}
-use Rattle.tx_document.specs.declared.entries.Entry.{Entry}
 use Rattle.tx_document.specs.Documents.{document, pair}
 use Rattle.tx_document.specs.Entries.{entries}
 use Rattle.q_tree.specs.Scores.{DocPostings}
 use Rattle.q_tree.specs.Documents.{DocWord, DocSection, DocEntry, postings_of_words}
+use Rattle.ix_cursor.specs.Alone.{doc_entries}
 
 abbrev pub doc_word : WordView → DocWord
 doc_word w = record { position = w.position; key = w.key; streams = w.streams }
@@ -28,9 +28,6 @@ doc_section s = record { name = s.section; pair = pair s.first s.last }
 abbrev pub doc_sections : List SectionView → List DocSection
 doc_sections ss = map doc_section ss
 
-abbrev pub doc_entry : Entry → DocEntry
-doc_entry e = record { stream = e.stream; token = e.token; places = e.places }
-
 -- the words of a text, its sections, and its entries
 abbrev pub text_words : Prefs → List ℕ → List DocWord
 text_words p text = doc_words (document p (chars text)).words
@@ -39,7 +36,7 @@ abbrev pub text_sections : Prefs → List ℕ → List DocSection
 text_sections p text = doc_sections (document p (chars text)).sections
 
 abbrev pub entries_of_text : Prefs → List ℕ → List DocEntry
-entries_of_text p text = map doc_entry (entries (document p (chars text)))
+entries_of_text p text = doc_entries (entries (document p (chars text)))
 
 -- THE POSTINGS OF A TEXT, by scanning its words and sections
 abbrev pub scanned_postings : Prefs → List ℕ → DocPostings

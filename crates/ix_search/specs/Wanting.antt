@@ -17,11 +17,10 @@ wanted s slot = record { stream = s; slot = slot }
 abbrev pub is_wanted : List Wanted → ℕ → Slot → Bool
 is_wanted ws s slot = list_any (λ (w : Wanted). eqb w.stream s && same_slot w.slot slot) ws
 
--- with a slot more, unless it is there; Any isn't read, and patterns aren't either
+-- with a slot more, unless it is there; Any isn't read
 abbrev pub with_slot : ℕ → Slot → List Wanted → List Wanted
 with_slot s Any ws = ws
-with_slot s (Takes keys []) ws = if is_wanted ws s (Takes keys []) then ws else ws ++ wanted s (Takes keys []) ∷ []
-with_slot s (Takes keys (p ∷ ps)) ws = ws
+with_slot s (Takes keys patterns) ws = if is_wanted ws s (Takes keys patterns) then ws else ws ++ wanted s (Takes keys patterns) ∷ []
 
 abbrev pub with_phrase : ℕ → List Slot → List Wanted → List Wanted
 with_phrase s [] ws = ws

@@ -5,7 +5,6 @@ ghost use Rattle.q_tree.specs.ReducedQueries.{reduced_of};
 ghost use Rattle.q_tree.specs.Soundness.{is_sound};
 ghost use Rattle.ix_cursor.specs.Reading.{FeedsRise};
 ghost use Rattle.ix_search.specs.Once.{feeds_once};
-ghost use Rattle.ix_search.specs.Parts.{has_keys_alone};
 
 use crate::document_rows::DocumentRows;
 use crate::hits::Hit;
@@ -16,14 +15,13 @@ use q_tree::Flat;
 use std::alloc::Global;
 
 /// What a query reads of an index: the rows of postings of its slots and sections, and the keys of the rows of its candidates among the
-/// mapped documents. The query has no pattern and no DEFINESCORE.
+/// mapped documents.
 #[derive(Drop)]
 pub struct Gathered<'q> {
     flat: &'q Flat,
     feeds: Feeds,
     rows: DocumentRows,
     ghost sound: { is_sound (reduced_of flat.now) ≡ true },
-    ghost plain: { has_keys_alone (reduced_of flat.now) ≡ true },
     ghost rise: { FeedsRise feeds } by { feeds_once feeds },
 }
 
@@ -35,7 +33,6 @@ impl<'q> Gathered<'q> {
     /// What was read for a query.
     pub(crate) fn of(flat: &'q Flat, feeds: Feeds, rows: DocumentRows) -> Gathered<'q>
         requires sound { is_sound (reduced_of flat.now) ≡ true }
-        requires plain { has_keys_alone (reduced_of flat.now) ≡ true }
         requires rise { FeedsRise feeds }
         ensures flat { result.flat.now ≡ flat.now }
         ensures feeds { result.feeds ≡ feeds }
@@ -49,7 +46,6 @@ impl<'q> Gathered<'q> {
     ///
     /// It decodes each row of postings up to the last document that it looks at, and takes for each document that it scores the logarithm
     /// of their number.
-    #[tactic(auto, using(crate::specs::laws::Parts::alone_is_plain))]
     pub fn hits(&self, alloc: Global) -> Result<Vec<Hit>, Memory>
         ensures { IfOk result (λ hits. (rows : List (ℤ × ℕ)) → GivesRows self.now rows → hit_rows hits.items ≡ rows) }
     {

@@ -14,5 +14,5 @@ mod wanting;
 
 pub use gathering::Gathered;
 pub use hits::Hit;
-pub use laws::{found_is_exact, score_laws, text_laws, unsettled_not_found};
+pub use laws::{found_is_exact, looking_law, score_laws, text_laws, unsettled_not_found};
 pub use searching::{gather, search};

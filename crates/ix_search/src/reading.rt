@@ -1,7 +1,7 @@
 //! What a query reads of an index.
 #![tactic(auto, using(ct_keep::specs::laws::Composing::reads_on, ct_keep::specs::laws::Composing::reads_short))]
 
-ghost use Rattle.std.specs.Prelude.{◌≡◌, List, IfOk, MatchOption};
+ghost use Rattle.std.specs.Prelude.{◌≡◌, ◌++◌, ◌∷◌, [], List, IfOk, OnOk, MatchOption};
 ghost use Rattle.ct_keep.specs.KeeperViews.{Finds, OnlyReads, Told};
 ghost use Rattle.ct_keep.specs.Looks.{LooksAtMost};
 ghost use Rattle.ct_base.specs.Names.{IsName};
@@ -14,9 +14,11 @@ ghost use Rattle.ix_rows.specs.WordRows.{word_term};
 ghost use Rattle.ix_rows.specs.SpanRows.{section_term};
 ghost use Rattle.q_tree.specs.ReducedQueries.{reduced_of};
 ghost use Rattle.ix_cursor.specs.Reading.{TokensRise, SlotFeedsRise, SectionFeedsRise, FeedsRise};
-ghost use Rattle.ix_search.specs.Parts.{keys_of};
-ghost use Rattle.ix_search.specs.Looking.{key_looks, keys_looks, slots_looks, name_looks, names_looks, query_looks};
-ghost use Rattle.ix_search.specs.Reading.{KeyRows, NameRows, HoldsKey, HoldsSlot, HoldsName, AreRowsOfKeys, AreFeedsOfSlots, AreFeedsOfSections, AreFeedsOfQuery, slot_feed, section_feed, section_names};
+ghost use Rattle.ix_tokens.specs.Looking.{key_looks};
+ghost use Rattle.ix_tokens.specs.Tokens.{KeyRows, HoldsKey, HoldsStream};
+ghost use Rattle.ix_search.specs.Parts.{keys_of, patterns_of};
+ghost use Rattle.ix_search.specs.Looking.{keys_looks, patterns_looks, slot_looks, slots_looks, name_looks, names_looks, query_looks};
+ghost use Rattle.ix_search.specs.Reading.{NameRows, HoldsTokens, HoldsName, CanBeRead, IsSlotFeed, AreRowsOfKeys, AreRowsOfPatterns, AreFeedsOfSlots, AreFeedsOfSections, AreFeedsOfQuery, section_feed, section_names};
 
 use crate::wanting::{Wanted, want_names, want_slots};
 use ct_base::{Listed, Memory, Name};
@@ -25,7 +27,8 @@ use ct_keep::{KeepFault, Keeper};
 use ix_cursor::{Feeds, SectionFeed, SlotFeed};
 use ix_posting::EncodedRows;
 use ix_rows::{put_section_term, put_word_term, rows_of};
-use q_tree::{Flat, Slot};
+use ix_tokens::rows_of_pattern;
+use q_tree::{Flat, Pattern, Slot};
 use std::alloc::Global;
 use tx_chars::Key;
 
@@ -62,6 +65,14 @@ fn read_key<K: Keeper>(
     rows_of(alloc, keeper, Kind::Postings, index, &term)
 }
 
+/// Puts the rows of a token behind those of others.
+fn put_one(tokens: &mut Vec<EncodedRows<u32>>, rows: EncodedRows<u32>) -> Result<(), Memory>
+    ensures { OnOk result (tokens.new.items ≡ tokens.old.items ++ rows ∷ []) }
+{
+    tokens.push(rows)?;
+    Ok(())
+}
+
 /// The rows of each of some keys in a stream.
 fn read_keys<K: Keeper>(
     alloc: Global,
@@ -69,17 +80,48 @@ fn read_keys<K: Keeper>(
     index: &Name,
     stream: u8,
     keys: &[Key],
-) -> Result<Listed<EncodedRows<u32>>, KeepFault>
+) -> Result<Vec<EncodedRows<u32>>, KeepFault>
     requires { (K.view keeper.old).ready }
-    ensures rise { IfOk result (λ tokens. TokensRise tokens) }
-    ensures rows { Finds K.view keeper.old result (λ m tokens. AreRowsOfKeys m index.now stream keys.now tokens) }
+    ensures rise { IfOk result (λ tokens. TokensRise tokens.items) }
+    ensures rows { Finds K.view keeper.old result (λ m tokens. AreRowsOfKeys m index.now stream keys.now tokens.items) }
     ensures reads { OnlyReads K.view keeper.old keeper.new result }
     ensures at_most { Told K.view keeper.old (λ m. LooksAtMost K.view keeper.old keeper.new (keys_looks m index.now stream keys.now)) }
 {
-    let mut tokens = Listed::empty(alloc);
+    let mut tokens = Vec::new(alloc);
     for key in keys {
         let rows = read_key(alloc, keeper, index, stream, key)?;
-        tokens = tokens.with(rows)?;
+        put_one(&mut tokens, rows)?;
+    }
+    Ok(tokens)
+}
+
+/// Puts the rows of some tokens behind those of others.
+fn put_all(tokens: &mut Vec<EncodedRows<u32>>, found: Vec<EncodedRows<u32>>) -> Result<(), Memory>
+    ensures { OnOk result (tokens.new.items ≡ tokens.old.items ++ found.items) }
+{
+    let mut found = found;
+    tokens.append(&mut found)?;
+    Ok(())
+}
+
+/// The rows of the tokens that each of some patterns takes in a stream, each row by itself.
+fn read_patterns<K: Keeper>(
+    alloc: Global,
+    keeper: &mut K,
+    index: &Name,
+    stream: u8,
+    patterns: &[Pattern],
+) -> Result<Vec<EncodedRows<u32>>, KeepFault>
+    requires { (K.view keeper.old).ready }
+    ensures rise { IfOk result (λ tokens. TokensRise tokens.items) }
+    ensures rows { Finds K.view keeper.old result (λ m tokens. (held : KeyRows) → HoldsStream m index.now stream held → AreRowsOfPatterns held stream patterns.now tokens.items) }
+    ensures reads { OnlyReads K.view keeper.old keeper.new result }
+    ensures at_most { Told K.view keeper.old (λ m. LooksAtMost K.view keeper.old keeper.new (patterns_looks m index.now stream patterns.now)) }
+{
+    let mut tokens = Vec::new(alloc);
+    for pattern in patterns {
+        let found = rows_of_pattern(alloc, keeper, index, stream, pattern.as_slice())?;
+        put_all(&mut tokens, found)?;
     }
     Ok(tokens)
 }
@@ -94,7 +136,17 @@ fn keys_of(slot: &Slot) -> &[Key]
     }
 }
 
-/// The rows of the keys of a slot in its stream.
+/// The patterns of a slot; of one that takes any word there are none.
+fn patterns_of(slot: &Slot) -> &[Pattern]
+    ensures { result.now ≡ patterns_of slot.now }
+{
+    match slot {
+        Slot::Any => &[],
+        Slot::Takes { patterns, .. } => patterns.as_slice(),
+    }
+}
+
+/// The rows of the keys and patterns of a slot in its stream.
 fn read_slot<K: Keeper>(
     alloc: Global,
     keeper: &mut K,
@@ -103,16 +155,18 @@ fn read_slot<K: Keeper>(
 ) -> Result<SlotFeed, KeepFault>
     requires { (K.view keeper.old).ready }
     ensures rise { IfOk result (λ feed. TokensRise feed.tokens) }
-    ensures rows { Finds K.view keeper.old result (λ m feed. (held : KeyRows) → HoldsSlot m index.now held wanted → feed ≡ slot_feed held wanted) }
+    ensures rows { Finds K.view keeper.old result (λ m feed. (held : KeyRows) → HoldsTokens m index.now held → CanBeRead wanted → IsSlotFeed held wanted feed) }
     ensures reads { OnlyReads K.view keeper.old keeper.new result }
-    ensures at_most { Told K.view keeper.old (λ m. LooksAtMost K.view keeper.old keeper.new (keys_looks m index.now wanted.stream (keys_of wanted.slot))) }
+    ensures at_most { Told K.view keeper.old (λ m. LooksAtMost K.view keeper.old keeper.new (slot_looks m index.now wanted)) }
 {
     let Wanted { stream, slot } = wanted;
-    let tokens = read_keys(alloc, keeper, index, stream, keys_of(&slot))?;
+    let mut tokens = read_keys(alloc, keeper, index, stream, keys_of(&slot))?;
+    let found = read_patterns(alloc, keeper, index, stream, patterns_of(&slot))?;
+    put_all(&mut tokens, found)?;
     Ok(SlotFeed {
         stream,
         slot,
-        tokens,
+        tokens: Listed::of(tokens),
     })
 }
 
@@ -189,8 +243,8 @@ fn read_names<K: Keeper>(
     Ok(feeds)
 }
 
-/// The rows that a query without patterns needs: those of each of its keys in each stream where it is looked for, and those
-/// of each of its sections. Each is read once.
+/// The rows that a query needs: those of each of its keys and of the tokens that each of its patterns takes, in each stream where it is
+/// looked for, and those of each of its sections. Each is read once.
 pub(crate) fn read<K: Keeper>(
     alloc: Global,
     keeper: &mut K,

@@ -1,5 +1,5 @@
 //! The rows that a query finds.
-#![tactic(auto, using(ct_keep::specs::laws::Composing::reads_on, ct_keep::specs::laws::Composing::reads_short, crate::specs::laws::Parts::alone_is_plain))]
+#![tactic(auto, using(ct_keep::specs::laws::Composing::reads_on, ct_keep::specs::laws::Composing::reads_short))]
 
 ghost use Rattle.std.specs.Prelude.{◌≡◌, true};
 ghost use Rattle.ct_keep.specs.KeeperViews.{OnlyReads, Told};
@@ -8,7 +8,6 @@ ghost use Rattle.tx_settings.specs.PrefsBytes.{IsPrefs};
 ghost use Rattle.q_tree.specs.ReducedQueries.{reduced_of};
 ghost use Rattle.q_tree.specs.Soundness.{is_sound};
 ghost use Rattle.ix_context.specs.Sees.{SeesWithinLimits};
-ghost use Rattle.ix_search.specs.Parts.{has_keys_alone};
 ghost use Rattle.ix_search.specs.Finding.{found};
 ghost use Rattle.ix_search.specs.Gathering.{GivesRows};
 ghost use Rattle.ix_search.specs.Hits.{hit_rows};
@@ -24,9 +23,10 @@ use ix_cursor::Candidates;
 use q_tree::Flat;
 use std::alloc::Global;
 
-/// Reads what a query needs, so that it can be searched without the keeper. The query has no pattern and no DEFINESCORE.
+/// Reads what a query needs, so that it can be searched without the keeper.
 ///
-/// It reads, once each, the rows of each key in each stream where the query looks for it, and those of each section. Then it makes one
+/// It reads, once each, the rows of each key in each stream where the query looks for it, those of each token that a pattern takes there,
+/// and those of each section. Then it makes one
 /// look-up for each candidate: each document with those words and sections of the query that a score needs. It decodes each row once
 /// to check it, and once more as far as candidates are looked for in it. It reads no text, and never answers Full.
 pub fn gather<'q, K: Keeper>(
@@ -37,7 +37,6 @@ pub fn gather<'q, K: Keeper>(
 ) -> Result<Gathered<'q>, KeepFault>
     requires ready { (K.view keeper.old).ready }
     requires sound { is_sound (reduced_of flat.now) ≡ true }
-    requires plain { has_keys_alone (reduced_of flat.now) ≡ true }
     ensures gathered { SeesWithinLimits K.view keeper.old index.now result (λ t x g. IsPrefs x.prefs → GivesRows g (found t x (reduced_of flat.now) 0)) }
     ensures reads { OnlyReads K.view keeper.old keeper.new result }
     ensures at_most { Told K.view keeper.old (λ m. LooksAtMost K.view keeper.old keeper.new (query_looks m index.now (reduced_of flat.now))) }
@@ -48,7 +47,7 @@ pub fn gather<'q, K: Keeper>(
     Ok(Gathered::of(flat, feeds, rows))
 }
 
-/// The rows that a query finds, with their scores, in order of their keys. The query has no pattern and no DEFINESCORE.
+/// The rows that a query finds, with their scores, in order of their keys.
 ///
 /// It costs what it gathers, and then the scoring of what was read.
 /// It reads no text, and never answers Full.
@@ -60,7 +59,6 @@ pub fn search<K: Keeper>(
 ) -> Result<Vec<Hit>, KeepFault>
     requires ready { (K.view keeper.old).ready }
     requires sound { is_sound (reduced_of flat.now) ≡ true }
-    requires plain { has_keys_alone (reduced_of flat.now) ≡ true }
     ensures found { SeesWithinLimits K.view keeper.old index.now result (λ t x hits. IsPrefs x.prefs → hit_rows hits.items ≡ found t x (reduced_of flat.now) 0) }
     ensures reads { OnlyReads K.view keeper.old keeper.new result }
     ensures at_most { Told K.view keeper.old (λ m. LooksAtMost K.view keeper.old keeper.new (query_looks m index.now (reduced_of flat.now))) }

@@ -8,7 +8,7 @@ ghost use Rattle.q_tree.specs.declared.flats.Slot.TheVariants.{Takes};
 ghost use Rattle.ix_search.specs.Wanting.{is_wanted, with_slot, with_phrase, with_term, with_operands, with_slots, with_name, with_names};
 
 use ct_base::{Listed, Memory, Name};
-use q_tree::{Flat, Phrase, Phrases, Place, Slot, same_slot};
+use q_tree::{Flat, Pattern, PatternBit, Phrase, Phrases, Place, Slot, same_slot};
 use std::alloc::Global;
 use tx_chars::Key;
 
@@ -48,19 +48,52 @@ fn copy_keys(alloc: Global, keys: &[Key]) -> Result<Vec<Key>, Memory>
     Ok(copy)
 }
 
-/// Wants a slot in a stream, unless it is wanted there. It wants none that takes any word, or has a pattern.
+/// The same piece of a pattern once more.
+fn copy_bit(bit: &PatternBit) -> Result<PatternBit, Memory>
+    ensures { IfOk result (λ copy. copy ≡ bit.now) }
+{
+    match bit {
+        PatternBit::Chars(text) => Ok(PatternBit::Chars(text.clone()?)),
+        PatternBit::One => Ok(PatternBit::One),
+        PatternBit::Many => Ok(PatternBit::Many),
+    }
+}
+
+/// The same pattern once more.
+fn copy_pattern(alloc: Global, pattern: &[PatternBit]) -> Result<Pattern, Memory>
+    ensures { IfOk result (λ copy. copy ≡ pattern.now) }
+{
+    let mut copy = Vec::new(alloc);
+    for bit in pattern {
+        copy.push(copy_bit(bit)?)?;
+    }
+    Ok(Listed::of(copy))
+}
+
+/// The same patterns once more.
+fn copy_patterns(alloc: Global, patterns: &[Pattern]) -> Result<Vec<Pattern>, Memory>
+    ensures { IfOk result (λ copy. copy.items ≡ patterns.now) }
+{
+    let mut copy = Vec::new(alloc);
+    for pattern in patterns {
+        copy.push(copy_pattern(alloc, pattern.as_slice())?)?;
+    }
+    Ok(copy)
+}
+
+/// Wants a slot in a stream, unless it is wanted there. It wants none that takes any word.
 fn want_slot(alloc: Global, stream: u8, slot: &Slot, wanted: &mut Vec<Wanted>) -> Result<(), Memory>
     ensures { OnOk result (wanted.new.items ≡ with_slot stream slot.now wanted.old.items) }
 {
     let Slot::Takes { keys, patterns } = slot else {
         return Ok(());
     };
-    if !patterns.as_slice().is_empty() || is_wanted(wanted, stream, slot) {
+    if is_wanted(wanted, stream, slot) {
         return Ok(());
     }
     let slot = Slot::Takes {
         keys: Listed::of(copy_keys(alloc, keys.as_slice())?),
-        patterns: Listed::empty(alloc),
+        patterns: Listed::of(copy_patterns(alloc, patterns.as_slice())?),
     };
     wanted.push(Wanted { stream, slot })?;
     Ok(())

@@ -1,3 +1,5 @@
+pub mod ThesaurusSteps
+pub mod NamingSteps
 pub mod JoinedKeys
 pub mod KeysInOrder
 pub mod RisingKeys

@@ -8,6 +8,10 @@ use Rattle.q_tree.specs.declared.flats.Flat.{Flat}
 use Rattle.q_tree.specs.declared.flats.Place.{Place}
 use Rattle.q_tree.specs.declared.flats.Slot.{Slot}
 use Rattle.q_tree.specs.declared.flats.SumStep.{SumStep}
+use Rattle.std.specs.Str.{chars}
+use Rattle.q_tree.specs.declared.queries.Relation.{Relation}
+use Rattle.q_tree.specs.declared.queries.Word.{Word}
+use Rattle.th_graph.specs.declared.pairs.TermPair.{TermPair}
 use Rattle.q_tree.specs.declared.queries.Leaf.{Leaf}
 use Rattle.q_tree.specs.declared.queries.Leaf.TheVariants.{Phrase, Thes}
 use Rattle.q_tree.specs.declared.queries.Op.{Op}
@@ -20,8 +24,8 @@ use Rattle.q_reduce.specs.declared.faults.ReduceFault.{ReduceFault}
 use Rattle.q_reduce.specs.Faults.{Fault}
 use Rattle.q_reduce.specs.Results.{Reduces}
 use Rattle.q_reduce.specs.Promises.{ReducedIsSound, IsTrimmed}
-use Rattle.q_reduce.specs.Reducing.{Context, place_slots, trimmed, phrases_of_slots, leaf_phrases, operand_phrases, term, right_alone, both_query, has_phrase, near_query, named_place, within_place, define_query, reduced}
-use Rattle.q_reduce.proofs.SoundSlots.{all_joined, place_slots_sound}
+use Rattle.q_reduce.specs.Reducing.{Context, place_slots, trimmed, phrases_of_slots, operator_phrases, operator_terms, term_phrases, slots_of_term, thesaurus_named, leaf_phrases, operand_phrases, term, right_alone, both_query, has_phrase, near_query, named_place, within_place, define_query, reduced}
+use Rattle.q_reduce.proofs.SoundSlots.{all_joined, place_slots_sound, token_slots_sound}
 use Rattle.q_reduce.proofs.SoundPlaces.{IsSoundPlace, place_sound}
 use Rattle.q_reduce.proofs.TrimmedSlots.{all_trimmed, trimmed_ends}
 
@@ -35,11 +39,24 @@ phrases_of_sound : (slots : List Slot) → IsTrimmed slots → list_all is_slot 
 phrases_of_sound [] ends all = refl
 phrases_of_sound (slot ∷ slots) ends all = and_from _ _ (and_from _ _ (and_from _ _ ends.0 ends.1) all) refl
 
+-- the keys of a term are keys, as those of a word are
+slots_of_term_sound : (x : Context) (term : List ℕ) → list_all is_slot (slots_of_term x term) ≡ true
+slots_of_term_sound x term = token_slots_sound x (chars term)
+
+term_phrases_sound : (x : Context) (term : List ℕ) → list_all is_phrase (term_phrases x term) ≡ true
+term_phrases_sound x term =
+    let slots = slots_of_term x term in
+    phrases_of_sound (trimmed slots) (trimmed_ends slots) (all_trimmed is_slot slots (slots_of_term_sound x term))
+
+operator_sound : (x : Context) (o : Option (List TermPair)) (relation : Relation) (level : ℕ) (words : List Word) → list_all is_phrase (operator_phrases x o relation level words) ≡ true
+operator_sound x None relation level words = refl
+operator_sound x (Some ps) relation level words = all_joined is_phrase (term_phrases x) (operator_terms ps relation level words) (term_phrases_sound x)
+
 leaf_sound : (x : Context) (leaf : Leaf) → list_all is_phrase (leaf_phrases x leaf) ≡ true
 leaf_sound x (Phrase places) =
     let slots = flat_map (place_slots x) places in
     phrases_of_sound (trimmed slots) (trimmed_ends slots) (all_trimmed is_slot slots (all_joined is_slot (place_slots x) places (place_slots_sound x)))
-leaf_sound x (Thes relation words level thesaurus) = refl
+leaf_sound x (Thes relation words level thesaurus) = operator_sound x (thesaurus_named thesaurus x.thesauri) relation level words
 
 phrases_sound : (x : Context) (leaves : List Leaf) → list_all is_phrase (operand_phrases x leaves) ≡ true
 phrases_sound x leaves = all_joined is_phrase (leaf_phrases x) leaves (leaf_sound x)

@@ -64,6 +64,13 @@ key_slots_sound x (key ∷ keys) all = let parts = and_parts (is_key key) (list_
     go true first rest = rest
     go false first rest = and_from _ _ (and_from _ _ first refl) rest
 
+-- the slots of the tokens of some characters
+pub token_slots_sound : (x : Context) (text : List ℕ) → list_all is_slot (map (key_slot x) (map (λ (t : Token). t.key) (tokens (rules x.lexer) text))) ≡ true
+token_slots_sound x text =
+    let r = rules x.lexer in
+    key_slots_sound x (map (λ (t : Token). t.key) (tokens r text))
+    (are_keys (tokens r text) (recursion_from_All _ _ (some_keys r text)) (recursion_from_All _ _ (token_limit_kept r token_limit (key_limit x.lexer.base_letter x.lexer.mixed_case) text)))
+
 word_slots_sound : (x : Context) (w : Word) → list_all is_slot (word_slots x w) ≡ true
 word_slots_sound x w = go (has_wildcard w.bits)
   where

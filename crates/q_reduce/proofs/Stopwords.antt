@@ -9,6 +9,7 @@ use Rattle.tx_stop.specs.StopKeys.{is_stop}
 use Rattle.q_tree.specs.declared.flats.Place.{Place}
 use Rattle.q_tree.specs.declared.flats.Slot.{Slot}
 use Rattle.q_tree.specs.declared.flats.Slot.TheVariants.{Any, Takes}
+use Rattle.th_graph.specs.declared.pairs.TermPair.{TermPair}
 use Rattle.q_tree.specs.declared.queries.Leaf.{Leaf}
 use Rattle.q_tree.specs.declared.queries.Leaf.TheVariants.{Phrase, Thes}
 use Rattle.q_tree.specs.declared.queries.Word.{Word}
@@ -17,7 +18,7 @@ use Rattle.q_tree.specs.Soundness.{takes_some}
 use Rattle.q_tree.specs.Trees.{Single, Both, Weight, Above, Near, Within, Define}
 use Rattle.q_tree.specs.ReducedQueries.{Weight as ReducedWeight, Above as ReducedAbove}
 use Rattle.q_reduce.specs.Promises.{leaf_words, query_words, has_only_stopwords, StopwordsFindNothing}
-use Rattle.q_reduce.specs.Reducing.{Context, word_keys, pattern, key_slot, word_slots, joined_keys, joined_patterns, in_order, slot_of, joined_slot, place_slots, front_dropped, end_dropped, phrases_of_slots, leaf_phrases, operand_phrases, term, both_query, has_phrase, near_query, named_place, within_place, define_query, reduced}
+use Rattle.q_reduce.specs.Reducing.{Context, word_keys, pattern, key_slot, word_slots, joined_keys, joined_patterns, in_order, slot_of, joined_slot, place_slots, front_dropped, end_dropped, phrases_of_slots, leaf_phrases, operator_phrases, thesaurus_named, operand_phrases, term, both_query, has_phrase, near_query, named_place, within_place, define_query, reduced}
 
 -- ---- lists
 
@@ -96,22 +97,22 @@ none_left (Takes keys patterns ∷ slots) all = absurd (cc)
 
 -- ---- phrases
 
-no_phrase : (x : Context) (leaf : Leaf) → list_all (has_only_stopwords x) (leaf_words leaf) ≡ true → leaf_phrases x leaf ≡ []
-no_phrase x (Phrase places) stop =
+no_phrase : (x : Context) → x.thesauri ≡ [] → (leaf : Leaf) → list_all (has_only_stopwords x) (leaf_words leaf) ≡ true → leaf_phrases x leaf ≡ []
+no_phrase x none (Phrase places) stop =
     let each = each_list (has_only_stopwords x) (λ (words : List Word). words) places stop in
     let any = all_joined_where is_any (place_slots x) (list_all (has_only_stopwords x)) places (any_place x) each in
     ap (λ slots. phrases_of_slots (end_dropped slots)) (none_left (flat_map (place_slots x) places) any)
-no_phrase x (Thes relation words level thesaurus) stop = refl
+no_phrase x none (Thes relation words level thesaurus) stop = ap (λ (ts : List (List ℕ × List TermPair)). operator_phrases x (thesaurus_named thesaurus ts) relation level words) none
 
-no_phrases : (x : Context) (leaves : List Leaf) → list_all (has_only_stopwords x) (flat_map leaf_words leaves) ≡ true → operand_phrases x leaves ≡ []
-no_phrases x leaves stop =
-    none_joined (leaf_phrases x) (λ leaf. list_all (has_only_stopwords x) (leaf_words leaf)) leaves (no_phrase x) (each_list (has_only_stopwords x) leaf_words leaves stop)
+no_phrases : (x : Context) → x.thesauri ≡ [] → (leaves : List Leaf) → list_all (has_only_stopwords x) (flat_map leaf_words leaves) ≡ true → operand_phrases x leaves ≡ []
+no_phrases x none leaves stop =
+    none_joined (leaf_phrases x) (λ leaf. list_all (has_only_stopwords x) (leaf_words leaf)) leaves (no_phrase x none) (each_list (has_only_stopwords x) leaf_words leaves stop)
 
-no_operand : (x : Context) (ops : List (List Leaf)) → list_all (λ leaves. list_all (has_only_stopwords x) (flat_map leaf_words leaves)) ops ≡ true → filter has_phrase (map (operand_phrases x) ops) ≡ []
-no_operand x [] stop = refl
-no_operand x (op ∷ ops) stop =
+no_operand : (x : Context) → x.thesauri ≡ [] → (ops : List (List Leaf)) → list_all (λ leaves. list_all (has_only_stopwords x) (flat_map leaf_words leaves)) ops ≡ true → filter has_phrase (map (operand_phrases x) ops) ≡ []
+no_operand x none [] stop = refl
+no_operand x none (op ∷ ops) stop =
     let parts = and_parts (list_all (has_only_stopwords x) (flat_map leaf_words op)) (list_all (λ leaves. list_all (has_only_stopwords x) (flat_map leaf_words leaves)) ops) stop in
-    ap (λ ps. filter has_phrase (ps ∷ map (operand_phrases x) ops)) (no_phrases x op parts.0) ∙ no_operand x ops parts.1
+    ap (λ ps. filter has_phrase (ps ∷ map (operand_phrases x) ops)) (no_phrases x none op parts.0) ∙ no_operand x none ops parts.1
 
 -- ---- queries
 
@@ -120,12 +121,12 @@ within_none None = refl
 within_none (Some place) = refl
 
 pub stopwords_find_nothing : StopwordsFindNothing
-stopwords_find_nothing x (Single leaf) stop = ap term (no_phrase x leaf stop)
-stopwords_find_nothing x (Both op a b) stop =
+stopwords_find_nothing x (Single leaf) none stop = ap term (no_phrase x none leaf stop)
+stopwords_find_nothing x (Both op a b) none stop =
     let parts = and_parts (list_all (has_only_stopwords x) (query_words a)) (list_all (has_only_stopwords x) (query_words b)) (sym (list_all-append (has_only_stopwords x) (query_words a) (query_words b)) ∙ stop) in
-    ap (λ q. both_query op q (reduced x b)) (stopwords_find_nothing x a parts.0) ∙ ap (both_query op None) (stopwords_find_nothing x b parts.1)
-stopwords_find_nothing x (Weight tenths a) stop = ap (option_map (ReducedWeight tenths)) (stopwords_find_nothing x a stop)
-stopwords_find_nothing x (Above n a) stop = ap (option_map (ReducedAbove n)) (stopwords_find_nothing x a stop)
-stopwords_find_nothing x (Near ops span ordered) stop = ap (near_query span ordered) (no_operand x ops (each_list (has_only_stopwords x) (flat_map leaf_words) ops stop))
-stopwords_find_nothing x (Within name a) stop = ap (within_place (named_place x.group name)) (stopwords_find_nothing x a stop) ∙ within_none (named_place x.group name)
-stopwords_find_nothing x (Define leaves sum) stop = ap (define_query sum) (no_phrases x leaves stop)
+    ap (λ q. both_query op q (reduced x b)) (stopwords_find_nothing x a none parts.0) ∙ ap (both_query op None) (stopwords_find_nothing x b none parts.1)
+stopwords_find_nothing x (Weight tenths a) none stop = ap (option_map (ReducedWeight tenths)) (stopwords_find_nothing x a none stop)
+stopwords_find_nothing x (Above n a) none stop = ap (option_map (ReducedAbove n)) (stopwords_find_nothing x a none stop)
+stopwords_find_nothing x (Near ops span ordered) none stop = ap (near_query span ordered) (no_operand x none ops (each_list (has_only_stopwords x) (flat_map leaf_words) ops stop))
+stopwords_find_nothing x (Within name a) none stop = ap (within_place (named_place x.group name)) (stopwords_find_nothing x a none stop) ∙ within_none (named_place x.group name)
+stopwords_find_nothing x (Define leaves sum) none stop = ap (define_query sum) (no_phrases x none leaves stop)

@@ -15,17 +15,21 @@ use Rattle.q_tree.specs.declared.flats.Place.TheVariants.{Field}
 use Rattle.q_tree.specs.declared.queries.WordBit.TheVariants.{Chars, Many}
 use Rattle.q_tree.specs.declared.queries.Word.{Word}
 use Rattle.q_tree.specs.declared.queries.Leaf.{Leaf}
-use Rattle.q_tree.specs.declared.queries.Leaf.TheVariants.{Phrase}
+use Rattle.q_tree.specs.declared.queries.Leaf.TheVariants.{Phrase, Thes}
 use Rattle.q_tree.specs.declared.queries.Op.TheVariants.{And, Not}
+use Rattle.q_tree.specs.declared.queries.Relation.TheVariants.{Broader, Syn}
+use Rattle.th_graph.specs.Pairs.{stated_pair}
+use Rattle.th_graph.specs.Expansions.{expansion, terms_within}
 use Rattle.q_tree.specs.Trees.{Single, Both, Weight, Near, Within}
 use Rattle.q_tree.specs.ReducedQueries.{Term, Within as ReducedWithin}
 use Rattle.q_reduce.specs.Reducing.{Context, trimmed, reduced}
 use Rattle.q_reduce.specs.Promises.{slot_keys, query_words, has_only_stopwords}
-use Rattle.q_reduce.specs.Faults.{faults, NoSection, FieldInside, ManyTokens}
+use Rattle.q_reduce.specs.Faults.{faults, NoSection, FieldInside, NoThesaurus, ManyTokens}
 
--- an index with the stopword `is` and the zones p and q and the field t
+-- an index with the stopword `is` and the zones p and q and the field t; in the thesaurus `th` an animal is broader than a dog, and a dog
+-- than an animal, and a guide dog is a dog
 abbrev its : Context
-its = record { lexer = default_options; stop = codes "is" ∷ []; group = zones }
+its = record { lexer = default_options; stop = codes "is" ∷ []; group = zones; thesauri = (codes "th", stated_pair Broader (codes "dog") (codes "animal") ∷ stated_pair Broader (codes "animal") (codes "dog") ∷ stated_pair Syn (codes "guide dog") (codes "dog") ∷ []) ∷ [] }
 
 abbrev word : ℕ → List ℕ → Word
 word place text = record { place = place; bits = Chars text ∷ [] }
@@ -35,6 +39,18 @@ leaf place text = Phrase ((word place text ∷ []) ∷ [])
 
 abbrev key : List ℕ → Slot
 key k = Takes (k ∷ []) []
+
+-- `BT(dog,5,th)`, `SYN(dog,th)` and `SYN(dog)`
+broader_terms : reduced its (Single (Thes Broader (word 4 (codes "dog") ∷ []) 5 (codes "th"))) ≡ Some (Term ((key (codes "animal") ∷ []) ∷ (key (codes "dog") ∷ []) ∷ []))
+unfolding encode chars caseless ucd_category key_text expansion terms_within
+broader_terms = refl
+
+synonyms : reduced its (Single (Thes Syn (word 5 (codes "Dog") ∷ []) 1 (codes "th"))) ≡ Some (Term ((key (codes "dog") ∷ []) ∷ (key (codes "guide") ∷ key (codes "dog") ∷ []) ∷ []))
+unfolding encode chars caseless ucd_category key_text expansion terms_within
+synonyms = refl
+
+no_thesaurus : faults its false (Single (Thes Syn (word 5 (codes "dog") ∷ []) 1 (codes "default"))) ≡ NoThesaurus (codes "default") ∷ []
+no_thesaurus = refl
 
 -- `jack is big`
 jack_is_big : reduced its (Single (Phrase ((word 1 (codes "jack") ∷ []) ∷ (word 6 (codes "is") ∷ []) ∷ (word 9 (codes "big") ∷ []) ∷ [])))

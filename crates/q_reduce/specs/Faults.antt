@@ -1,20 +1,26 @@
 -- Why a query can't be reduced for an index.
-use Rattle.std.specs.Prelude.{ℕ, ◌≡◌, ◌==◌, Bool, true, false, ◌||◌, List, [], ◌∷◌, ◌++◌, length, Option, Some, None, refl}
+use Rattle.std.specs.Prelude.{ℕ, ◌≡◌, ◌==◌, Bool, true, false, ◌||◌, nat_lt, List, [], ◌∷◌, ◌++◌, length, Option, Some, None, refl}
 use Rattle.std.specs.Bool.{if◌then◌else◌}
 use Rattle.std.specs.List.{flat_map}
 use Rattle.q_tree.specs.declared.flats.Place.{Place}
 use Rattle.q_tree.specs.declared.flats.Place.TheVariants.{Zone, Field}
+use Rattle.q_tree.specs.declared.queries.Relation.{Relation}
+use Rattle.th_graph.specs.declared.pairs.TermPair.{TermPair}
+use Rattle.th_graph.specs.Expansions.{expansion_limit}
 use Rattle.q_tree.specs.declared.queries.Word.{Word}
 use Rattle.q_tree.specs.declared.queries.Leaf.{Leaf}
 use Rattle.q_tree.specs.declared.queries.Leaf.TheVariants.{Phrase, Thes}
 use Rattle.q_tree.specs.Limits.{has_wildcard}
 use Rattle.q_tree.specs.Trees.{Tree, Single, Both, Weight, Above, Near, Within, Define}
-use Rattle.q_reduce.specs.Reducing.{Context, word_keys, named_place}
+use Rattle.q_reduce.specs.Reducing.{Context, word_keys, named_place, operator_terms, thesaurus_named}
 
--- The group has no section of the name; a field stands inside another WITHIN; a word that EQUIV joins, at this place, isn't one token.
+-- The group has no section of the name; a field stands inside another WITHIN; there is no thesaurus of the name; a term expands to too
+-- many; a word that EQUIV joins, at this place, isn't one token.
 pub data Fault : Type 0 where
   NoSection : List ℕ → Fault
   FieldInside : List ℕ → Fault
+  NoThesaurus : List ℕ → Fault
+  ManyTerms : Fault
   ManyTokens : ℕ → Fault
 
 -- ---- words that EQUIV joins
@@ -28,9 +34,18 @@ place_faults x [] = []
 place_faults x (w ∷ []) = []
 place_faults x (w ∷ v ∷ ws) = flat_map (word_faults x) (w ∷ v ∷ ws)
 
+-- ---- operators of thesauri
+
+abbrev pub expansion_faults : List (List ℕ) → List Fault
+expansion_faults terms = if nat_lt expansion_limit (length terms) then ManyTerms ∷ [] else []
+
+abbrev pub operator_faults : Option (List TermPair) → Relation → ℕ → List Word → List ℕ → List Fault
+operator_faults None relation level words name = NoThesaurus name ∷ []
+operator_faults (Some ps) relation level words name = expansion_faults (operator_terms ps relation level words)
+
 abbrev pub leaf_faults : Context → Leaf → List Fault
 leaf_faults x (Phrase places) = flat_map (place_faults x) places
-leaf_faults x (Thes relation words level thesaurus) = []
+leaf_faults x (Thes relation words level thesaurus) = operator_faults (thesaurus_named thesaurus x.thesauri) relation level words thesaurus
 
 abbrev pub leaves_faults : Context → List Leaf → List Fault
 leaves_faults x leaves = flat_map (leaf_faults x) leaves

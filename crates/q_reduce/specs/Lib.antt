@@ -1,5 +1,6 @@
 pub mod Reducing
 pub mod Faults
 pub mod Results
+pub mod Naming
 pub mod Examples
 pub mod Promises

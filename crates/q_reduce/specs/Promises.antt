@@ -71,9 +71,9 @@ query_words (Define leaves sum) = flat_map leaf_words leaves
 abbrev pub has_only_stopwords : Context → Word → Bool
 has_only_stopwords x w = not (has_wildcard w.bits) && list_all (is_stop x.stop) (word_keys x w)
 
--- A query of stopwords alone finds nothing.
+-- Where none of the thesauri that it names is there, a query of stopwords alone finds nothing.
 abbrev pub StopwordsFindNothing : Type 0
-StopwordsFindNothing = (x : Context) (t : Tree) → list_all (has_only_stopwords x) (query_words t) ≡ true → reduced x t ≡ None
+StopwordsFindNothing = (x : Context) (t : Tree) → x.thesauri ≡ [] → list_all (has_only_stopwords x) (query_words t) ≡ true → reduced x t ≡ None
 
 -- ---- computed examples
 

@@ -26,17 +26,23 @@ use Rattle.q_tree.specs.declared.queries.WordBit.TheVariants.{Chars, One, Many}
 use Rattle.q_tree.specs.declared.queries.Word.{Word}
 use Rattle.q_tree.specs.declared.queries.Leaf.{Leaf}
 use Rattle.q_tree.specs.declared.queries.Leaf.TheVariants.{Phrase, Thes}
+use Rattle.q_tree.specs.declared.queries.Relation.{Relation}
 use Rattle.q_tree.specs.declared.queries.Op.{Op}
 use Rattle.q_tree.specs.declared.queries.Op.TheVariants.{Or, And, Not, Minus}
+use Rattle.th_graph.specs.declared.pairs.TermPair.{TermPair}
+use Rattle.th_graph.specs.Terms.{term_of}
+use Rattle.th_graph.specs.Expansions.{expansion}
 use Rattle.q_tree.specs.Limits.{has_wildcard}
 use Rattle.q_tree.specs.Trees.{Tree, Single, Both, Weight, Above, Near, Within, Define}
 use Rattle.q_tree.specs.ReducedQueries.{Reduced, Term, Both as ReducedBoth, Weight as ReducedWeight, Above as ReducedAbove, Near as ReducedNear, Within as ReducedWithin, Define as ReducedDefine}
 
--- By what a query is reduced: the options of the index's lexer, its stop keys and its section group.
+-- By what a query is reduced: the options of the index's lexer, its stop keys and its section group; and the thesauri that are there among
+-- those that the query names, by their names.
 pub record Context : Type 0 where
   pub lexer : LexerOptions
   pub stop : List (List ℕ)
   pub group : SectionGroup
+  pub thesauri : List (List ℕ × List TermPair)
 
 -- ---- words
 
@@ -121,10 +127,46 @@ abbrev pub phrases_of_slots : List Slot → List (List Slot)
 phrases_of_slots [] = []
 phrases_of_slots (slot ∷ slots) = (slot ∷ slots) ∷ []
 
--- The phrases of a leaf: none or one. Thesauri aren't built, so an operator of theirs has none.
+-- ---- operators of thesauri
+
+-- a blank, where a word follows
+abbrev pub blank_before : List Word → List ℕ
+blank_before [] = []
+blank_before (w ∷ ws) = 32 ∷ []
+
+-- the words of an operator, which have no wildcards, with a blank between two
+abbrev pub words_text : List Word → List ℕ
+words_text [] = []
+words_text (w ∷ ws) = word_text w.bits ++ (blank_before ws ++ words_text ws)
+
+-- the pairs of the thesaurus of a name, if it is there
+abbrev pub thesaurus_named : List ℕ → List (List ℕ × List TermPair) → Option (List TermPair)
+thesaurus_named name [] = None
+thesaurus_named name (t ∷ ts) = if bytes_eq t.0 name then Some t.1 else thesaurus_named name ts
+
+-- what the words of an operator expand to, in the order of the terms' bytes; nothing where their text stands for no term
+abbrev pub expanded : List TermPair → Relation → ℕ → Option (List ℕ) → List (List ℕ)
+expanded ps relation level None = []
+expanded ps relation level (Some term) = expansion ps relation level term
+
+abbrev pub operator_terms : List TermPair → Relation → ℕ → List Word → List (List ℕ)
+operator_terms ps relation level words = expanded ps relation level (term_of (chars (words_text words)))
+
+-- a term is reduced as the phrase of its tokens
+abbrev pub slots_of_term : Context → List ℕ → List Slot
+slots_of_term x term = map (key_slot x) (map (λ (t : Token). t.key) (tokens (rules x.lexer) (chars term)))
+
+abbrev pub term_phrases : Context → List ℕ → List (List Slot)
+term_phrases x term = phrases_of_slots (trimmed (slots_of_term x term))
+
+abbrev pub operator_phrases : Context → Option (List TermPair) → Relation → ℕ → List Word → List (List Slot)
+operator_phrases x None relation level words = []
+operator_phrases x (Some ps) relation level words = flat_map (term_phrases x) (operator_terms ps relation level words)
+
+-- The phrases of a leaf: one or none of words, and one for each term that an operator of thesauri gives, unless it has none.
 abbrev pub leaf_phrases : Context → Leaf → List (List Slot)
 leaf_phrases x (Phrase places) = phrases_of_slots (trimmed (flat_map (place_slots x) places))
-leaf_phrases x (Thes relation words level thesaurus) = []
+leaf_phrases x (Thes relation words level thesaurus) = operator_phrases x (thesaurus_named thesaurus x.thesauri) relation level words
 
 -- the phrases of an operand
 abbrev pub operand_phrases : Context → List Leaf → List (List Slot)
@@ -224,6 +266,9 @@ one_operand_left p = refl
 
 any_between : trimmed (Any ∷ Takes [] [] ∷ Any ∷ Takes [] [] ∷ Any ∷ []) ≡ Takes [] [] ∷ Any ∷ Takes [] [] ∷ []
 any_between = refl
+
+no_thesaurus : (x : Context) (relation : Relation) (words : List Word) → operator_phrases x None relation 1 words ≡ []
+no_thesaurus x relation words = refl
 
 no_such_sentences : special false Sentence ≡ None
 no_such_sentences = refl

@@ -1,16 +1,22 @@
 -- What the calls of reduction answer.
-use Rattle.std.specs.Prelude.{◌≡◌, List, [], ◌∷◌, ◌++◌, Option, Some, None, Result, Ok, Err, refl}
+use Rattle.std.specs.Prelude.{◌≡◌, ℕ, List, [], ◌∷◌, ◌++◌, map, Option, Some, None, Result, Ok, Err, refl}
 use Rattle.std.specs.Option.{option_map}
 use Rattle.q_tree.specs.declared.flats.Flat.{Flat}
 use Rattle.q_tree.specs.ReducedQueries.{Reduced, reduced_of}
 use Rattle.q_reduce.specs.declared.reducing.ReduceCtx.{ReduceCtx}
+use Rattle.q_reduce.specs.declared.thesauri.NamedThesaurus.{NamedThesaurus}
+use Rattle.th_graph.specs.declared.pairs.TermPair.{TermPair}
 use Rattle.q_reduce.specs.declared.faults.ReduceFault.{ReduceFault}
-use Rattle.q_reduce.specs.declared.faults.ReduceFault.TheVariants.{NoSection as SectionFault, FieldInside as FieldFault, ManyTokens as TokensFault, Memory}
+use Rattle.q_reduce.specs.declared.faults.ReduceFault.TheVariants.{NoSection as SectionFault, FieldInside as FieldFault, NoThesaurus as ThesaurusFault, ManyTerms as TermsFault, ManyTokens as TokensFault, Memory}
 use Rattle.q_reduce.specs.Reducing.{Context}
-use Rattle.q_reduce.specs.Faults.{Fault, NoSection, FieldInside, ManyTokens}
+use Rattle.q_reduce.specs.Faults.{Fault, NoSection, FieldInside, NoThesaurus, ManyTerms, ManyTokens}
+
+-- thesauri by their names, as lists of pairs
+abbrev pub named_pairs : List NamedThesaurus → List (List ℕ × List TermPair)
+named_pairs ts = map {B = List ℕ × List TermPair} (λ t. (t.name, t.thesaurus)) ts
 
 abbrev pub context_of : ReduceCtx → Context
-context_of c = record { lexer = c.lexer.now; stop = c.stop.now; group = c.group.now }
+context_of c = record { lexer = c.lexer.now; stop = c.stop.now; group = c.group.now; thesauri = named_pairs c.thesauri.now }
 
 -- the first of the faults
 abbrev pub first_fault : List Fault → Option Fault
@@ -21,6 +27,8 @@ first_fault (f ∷ fs) = Some f
 abbrev pub IsFirst : ReduceFault → List Fault → Type 0
 IsFirst (SectionFault name) fs = first_fault fs ≡ Some (NoSection name)
 IsFirst (FieldFault name) fs = first_fault fs ≡ Some (FieldInside name)
+IsFirst (ThesaurusFault name) fs = first_fault fs ≡ Some (NoThesaurus name)
+IsFirst TermsFault fs = first_fault fs ≡ Some ManyTerms
 IsFirst (TokensFault place) fs = first_fault fs ≡ Some (ManyTokens place)
 IsFirst Memory fs = Unit {0}
 

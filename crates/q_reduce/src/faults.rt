@@ -13,6 +13,10 @@ pub enum ReduceFault {
     NoSection(Name),
     /// The field of this name stands inside another WITHIN.
     FieldInside(Name),
+    /// There is no thesaurus of this name.
+    NoThesaurus(Name),
+    /// A term expands to more than 1024 terms.
+    ManyTerms,
     /// The word at this place of the text, counted from 1, is joined to another by EQUIV and isn't exactly one token.
     ManyTokens(u32),
     Memory,

@@ -12,6 +12,7 @@ ghost use Rattle.std.specs.Prelude.{IfOk, OnOk};
 use crate::equivs::joined_slot;
 use crate::faults::ReduceFault;
 use crate::reducing::ReduceCtx;
+use crate::thesauri::put_operator;
 use crate::words::put_word;
 use ct_base::{Listed, Memory};
 use q_tree::{Leaf, Phrase, Phrases, Slot, Word, WordSlot};
@@ -102,7 +103,7 @@ fn trimmed(slots: Vec<Slot>) -> Result<Vec<Slot>, Memory>
     Ok(kept)
 }
 
-/// Puts the phrase of a leaf, if it has one. The terms of a thesaurus aren't looked up yet, so there is none of them.
+/// Puts the phrases of a leaf: that of its words, if it has one, or those of the terms that an operator of a thesaurus gives.
 fn put_leaf(
     alloc: Global,
     ctx: &ReduceCtx<'_>,
@@ -112,13 +113,35 @@ fn put_leaf(
     requires { leaf_keeps_limits leaf.now ≡ true }
     ensures { PutsMore result (leaf_faults (context_of ctx.now) leaf.now) phrases.old.items phrases.new.items (leaf_phrases (context_of ctx.now) leaf.now) }
 {
-    let Leaf::Phrase(places) = leaf else {
-        return Ok(());
-    };
-    let slots = slots(alloc, ctx, places.as_slice())?;
+    match leaf {
+        Leaf::Phrase(places) => {
+            let slots = slots(alloc, ctx, places.as_slice())?;
+            put_trimmed(phrases, slots)?;
+            Ok(())
+        }
+        Leaf::Thes {
+            relation,
+            words,
+            level,
+            thesaurus,
+        } => put_operator(
+            alloc,
+            ctx,
+            phrases,
+            *relation,
+            words.as_slice(),
+            *level,
+            thesaurus,
+        ),
+    }
+}
+
+/// Puts the phrase of some slots, without those at the front and at the end that take any word, unless none is left.
+pub(crate) fn put_trimmed(phrases: &mut Vec<Phrase>, slots: Vec<Slot>) -> Result<(), Memory>
+    ensures { OnOk result (phrases.new.items ≡ phrases.old.items ++ phrases_of_slots (trimmed slots.items)) }
+{
     let kept = trimmed(slots)?;
-    put_phrase(phrases, kept)?;
-    Ok(())
+    put_phrase(phrases, kept)
 }
 
 /// Puts a phrase, unless it has no slots.
@@ -131,7 +154,7 @@ fn put_phrase(phrases: &mut Vec<Phrase>, slots: Vec<Slot>) -> Result<(), Memory>
     Ok(())
 }
 
-/// The phrases of a leaf: one or none.
+/// The phrases of a leaf.
 pub(crate) fn leaf_phrases(
     alloc: Global,
     ctx: &ReduceCtx<'_>,

@@ -17,6 +17,7 @@ use crate::operators::{
 };
 use crate::phrases::{leaf_phrases, operand_phrases, operands};
 use crate::sections::section;
+use crate::thesauri::NamedThesaurus;
 use ct_base::Listed;
 use q_tree::{Flat, Leaf, Op, Query, SumStep};
 use std::alloc::Global;
@@ -24,19 +25,21 @@ use tx_lexer::LexerOptions;
 use tx_stop::StopKeys;
 use tx_tags::Group;
 
-/// By what a query is reduced: what an index copied when it was made.
+/// By what a query is reduced: what an index copied when it was made, and the thesauri that are there among those that the query names.
 #[derive(Clone, Copy)]
 pub struct ReduceCtx<'a> {
     pub lexer: &'a LexerOptions,
     pub stop: &'a StopKeys,
     pub group: &'a Group,
+    pub thesauri: &'a [NamedThesaurus],
 }
 
 /// The query as it is looked for in an index: with keys in place of words, and without stopwords. None is a query that finds
 /// nothing. A fault is the first in the order of the query's text.
 ///
 /// Its cost is linear in the size of the query, but for the logarithm of the number of stopwords for each word, the number of
-/// sections for each WITHIN, and the square of the number of words that one EQUIV joins. It goes as deep as the query.
+/// sections for each WITHIN, the square of the number of words that one EQUIV joins, and the expansion of each operator of a thesaurus.
+/// It goes as deep as the query.
 pub fn reduce(
     alloc: Global,
     query: &Query,

@@ -33,7 +33,7 @@ pub(crate) fn has_wildcard(bits: &[WordBit]) -> bool
 }
 
 /// The characters of all pieces.
-fn word_text(alloc: Global, bits: &[WordBit]) -> Result<String, Memory>
+pub(crate) fn word_text(alloc: Global, bits: &[WordBit]) -> Result<String, Memory>
     ensures { IfOk result (λ text. string_bytes text ≡ word_text bits.now) }
 {
     let mut text = String::new(alloc);
@@ -106,7 +106,7 @@ fn pattern_slot(alloc: Global, ctx: &ReduceCtx<'_>, word: &Word) -> Result<Slot,
 }
 
 /// Puts a slot for each token.
-fn put_tokens(
+pub(crate) fn put_tokens(
     alloc: Global,
     ctx: &ReduceCtx<'_>,
     slots: &mut Vec<Slot>,

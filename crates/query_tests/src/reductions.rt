@@ -6,11 +6,13 @@ ghost use Rattle.q_tree.specs.Limits.{word_keeps_limit, keeps_limits};
 ghost use Rattle.q_tree.specs.Trees.{tree_of};
 
 use ct_base::{Listed, Memory, Name, Text};
-use q_reduce::{ReduceCtx, ReduceFault, reduce};
-use q_tree::{Flat, Leaf, Phrases, Place, Query, Slot, Word, WordBit, WordSlot};
+use q_parse::parse;
+use q_reduce::{NamedThesaurus, ReduceCtx, ReduceFault, reduce, thesauri_in};
+use q_tree::{Flat, Leaf, Phrases, Place, Query, Relation, Slot, Word, WordBit, WordSlot};
 use std::alloc::Global;
 use std::str::from_utf8;
 use std::test::Fail;
+use th_graph::{Term, Thesaurus};
 use tx_lexer::LexerOptions;
 use tx_stop::StopKeys;
 use tx_tags::{Group, SectionKind};
@@ -141,6 +143,8 @@ fn fault_texts(fault: &ReduceFault) -> (&'static str, &str) {
     match fault {
         ReduceFault::NoSection(name) => ("no section ", name.as_str()),
         ReduceFault::FieldInside(name) => ("a field inside: ", name.as_str()),
+        ReduceFault::NoThesaurus(name) => ("no thesaurus ", name.as_str()),
+        ReduceFault::ManyTerms => ("too many terms", ""),
         ReduceFault::ManyTokens(20) => ("the second word isn't one token", ""),
         ReduceFault::ManyTokens(_) => ("the first word isn't one token", ""),
         ReduceFault::Memory => ("no memory", ""),
@@ -193,6 +197,42 @@ fn stop_keys(alloc: Global) -> Result<StopKeys, Memory> {
     StopKeys::new(alloc, &words, false, false)
 }
 
+/// A relation of the thesaurus `th`.
+type Stated = (&'static str, Relation, &'static str);
+
+const RELATIONS: &[Stated] = &[
+    ("dog", Relation::Broader, "animal"),
+    ("dog", Relation::Syn, "hound"),
+    ("Guide dog", Relation::Syn, "HOUND"),
+    ("dog", Relation::Preferred, "is"),
+];
+
+fn term(alloc: Global, text: &str) -> Result<Term, Memory> {
+    Term::of(alloc, text)?.ok_or(Memory)
+}
+
+/// The thesaurus of these relations.
+fn thesaurus_of(alloc: Global, rows: &[Stated]) -> Result<Thesaurus, Memory> {
+    let mut thesaurus = Thesaurus::new(alloc);
+    for (a, relation, b) in rows {
+        let first = term(alloc, a)?;
+        let second = term(alloc, b)?;
+        thesaurus
+            .relate(&first, *relation, &second)
+            .map_err(|_| Memory)?;
+    }
+    Ok(thesaurus)
+}
+
+/// The thesaurus `th`, with its name.
+fn thesauri(alloc: Global) -> Result<Vec<NamedThesaurus>, Memory> {
+    let name = section_name(alloc, "th")?;
+    let thesaurus = thesaurus_of(alloc, RELATIONS)?;
+    let mut thesauri = Vec::new(alloc);
+    thesauri.push(NamedThesaurus { name, thesaurus })?;
+    Ok(thesauri)
+}
+
 /// What a query is reduced to where `is` is a stopword.
 fn shown(alloc: Global, query: &Query) -> Result<String, Memory>
     requires { keeps_limits (tree_of query.now) ≡ true }
@@ -200,10 +240,12 @@ fn shown(alloc: Global, query: &Query) -> Result<String, Memory>
     let lexer = LexerOptions::defaults(alloc)?;
     let stop = stop_keys(alloc)?;
     let group = group_of(alloc, SECTIONS)?;
+    let thesauri = thesauri(alloc)?;
     let ctx = ReduceCtx {
         lexer: &lexer,
         stop: &stop,
         group: &group,
+        thesauri: &thesauri,
     };
     reduced(alloc, query, &ctx)
 }
@@ -222,6 +264,8 @@ enum Asked {
     Within(&'static str, &'static str),
     /// A word in the second section, all of it in the first.
     Nested(&'static str, &'static str, &'static str),
+    /// An operator over two words, the second of which may be empty, in a thesaurus.
+    Expands(Relation, &'static str, &'static str, &'static str),
 }
 
 /// Two words, both of which have to be there.
@@ -249,6 +293,27 @@ fn nested(alloc: Global, outer: &str, inner: &str, text: &str) -> Result<Query, 
     )
 }
 
+/// An operator of a thesaurus over two words, with the level 1.
+fn expansion(
+    alloc: Global,
+    relation: Relation,
+    a: &str,
+    b: &str,
+    name: &str,
+) -> Result<Query, Memory>
+    ensures { IfOk result (λ q. keeps_limits (tree_of q) ≡ true) }
+{
+    let words = Listed::empty(alloc)
+        .with(word(alloc, 1, a)?)?
+        .with(word(alloc, 20, b)?)?;
+    Ok(Query::Leaf(Leaf::Thes {
+        relation,
+        words,
+        level: 1,
+        thesaurus: section_name(alloc, name)?,
+    }))
+}
+
 fn query_of(alloc: Global, asked: Asked) -> Result<Query, Memory>
     ensures { IfOk result (λ q. keeps_limits (tree_of q) ≡ true) }
 {
@@ -259,6 +324,7 @@ fn query_of(alloc: Global, asked: Asked) -> Result<Query, Memory>
         Asked::Both(a, b) => both(alloc, a, b),
         Asked::Within(section, a) => word_within(alloc, section, a),
         Asked::Nested(outer, inner, a) => nested(alloc, outer, inner, a),
+        Asked::Expands(relation, a, b, name) => expansion(alloc, relation, a, b, name),
     }
 }
 
@@ -281,6 +347,27 @@ const QUERIES: &[(Asked, &str)] = &[
     (Asked::Within("t", "web"), "web within the first field"),
     (Asked::Nested("z", "t", "web"), "a field inside: t"),
     (Asked::Within("s", "is"), "no section s"),
+    (
+        Asked::Expands(Relation::Broader, "Dog", "", "th"),
+        "animal dog ",
+    ),
+    (
+        Asked::Expands(Relation::Narrower, "animal", "", "th"),
+        "animal dog ",
+    ),
+    (
+        Asked::Expands(Relation::Syn, "guide", "DOG", "th"),
+        "dog guide dog hound ",
+    ),
+    (
+        Asked::Expands(Relation::Preferred, "dog", "", "th"),
+        "nothing",
+    ),
+    (Asked::Expands(Relation::Syn, "", "", "th"), "nothing"),
+    (
+        Asked::Expands(Relation::Syn, "", "", "default"),
+        "no thesaurus default",
+    ),
 ];
 
 #[test]
@@ -288,5 +375,26 @@ fn reductions(rt: HostRuntime) -> Result<(), Fail> {
     for (asked, line) in QUERIES {
         assert_eq!(rt; shown_of(rt.alloc(), *asked)?.as_str(), *line);
     }
+    Ok(())
+}
+
+// ---- the thesauri that a text names
+
+/// Their names, each with a blank behind it.
+fn named(alloc: Global, text: &str) -> Result<String, Memory> {
+    let query = parse(alloc, text).map_err(|_| Memory)?;
+    let names = thesauri_in(alloc, &query)?;
+    let mut line = String::new(alloc);
+    for name in names.as_slice() {
+        line.push_str(name.as_str())?;
+        line.push(' ')?;
+    }
+    Ok(line)
+}
+
+#[test]
+fn names(rt: HostRuntime) -> Result<(), Fail> {
+    let text = "SYN(a,th) AND (BT(b,2) OR NEAR((PT(c,TH), NT(d)), 3)) NOT e";
+    assert_eq!(rt; named(rt.alloc(), text)?.as_str(), "th default ");
     Ok(())
 }

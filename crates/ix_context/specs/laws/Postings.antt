@@ -49,7 +49,7 @@ rise_so : (before : ℕ) (ps : List ℕ) → PositionsRise before ps → Rise be
 rise_so before [] rise = tt
 rise_so before (p ∷ ps) rise = (rise.0, rise.1, rise_so p ps rise.2)
 
-pairs_rise_so : (before : Pair) (ps : List Pair) → PairsRise before ps → PlacesRise pair_form before ps
+pub pairs_rise_so : (before : Pair) (ps : List Pair) → PairsRise before ps → PlacesRise pair_form before ps
 pairs_rise_so before [] rise = tt
 pairs_rise_so before (p ∷ ps) rise = (rise.0, (rise.1, rise.2, rise.3), pairs_rise_so p ps rise.4)
 

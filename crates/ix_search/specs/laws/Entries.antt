@@ -29,12 +29,13 @@ use Rattle.tx_document.specs.laws.Found.{get-place_map, places_are_positions, pl
 use Rattle.tx_document.specs.laws.Ordered.{no_word, the_streams}
 use Rattle.q_tree.specs.Documents.{DocEntry, DocSection, firsts, has_position, section_pairs}
 use Rattle.ix_context.specs.laws.Postings.{Named}
-use Rattle.ix_search.specs.Texts.{doc_entry, doc_section, doc_sections}
+use Rattle.ix_search.specs.Texts.{doc_section, doc_sections}
+use Rattle.ix_cursor.specs.Alone.{doc_entry}
 use Rattle.ix_search.specs.Promises.{EntriesArePostings}
 use Rattle.ix_search.specs.laws.Words.{bytes_turned, positions_stand}
 
-abbrev order : List ℕ → List ℕ → Rattle.std.specs.declared.cmp.Ordering.Ordering
-order = slice_cmp nat_cmp
+abbrev pub named_order : List ℕ → List ℕ → Rattle.std.specs.declared.cmp.Ordering.Ordering
+named_order = slice_cmp nat_cmp
 
 abbrev entries_named : List Named → List DocEntry
 entries_named ns = map doc_entry (map entry_of ns)
@@ -48,7 +49,7 @@ IsSome_ name = 1 ≤ length name
 abbrev is_named : ℕ → List ℕ → DocEntry → Bool
 is_named s t e = eqb e.stream s && bytes_eq e.token t
 
-named_so : (s : ℕ) (t : List ℕ) (stream : ℕ) (token : List ℕ) → (eqb stream s && bytes_eq token t) ≡ eq_by_cmp order (s ∷ t) (stream ∷ token)
+pub named_so : (s : ℕ) (t : List ℕ) (stream : ℕ) (token : List ℕ) → (eqb stream s && bytes_eq token t) ≡ eq_by_cmp named_order (s ∷ t) (stream ∷ token)
 named_so s t stream token =
     same_tests (eqb stream s && bytes_eq token t) (bytes_eq (s ∷ t) (stream ∷ token))
     (λ h. let p = and_parts (eqb stream s) (bytes_eq token t) h in
@@ -58,8 +59,8 @@ named_so s t stream token =
     ∙ sym (is_eq-slice_cmp (s ∷ t) (stream ∷ token))
 
 -- what is behind a name that ties isn't found
-behind : (name : List ℕ) (n : Named) (ns : List Named) → eq_by_cmp order name n.0 ≡ true → below order n.0 ns ≡ true → find order name ns ≡ None
-behind name n ns tie low = none_below order name ns (below_tied order nat_list_cmp_total name n.0 ns tie low)
+behind : (name : List ℕ) (n : Named) (ns : List Named) → eq_by_cmp named_order name n.0 ≡ true → below named_order n.0 ns ≡ true → find named_order name ns ≡ None
+behind name n ns tie low = none_below named_order name ns (below_tied named_order nat_list_cmp_total name n.0 ns tie low)
 
 -- a test of the places that are found
 abbrev at_found : (List Pair → Bool) → Option (List Pair) → Bool
@@ -67,41 +68,41 @@ at_found test None = false
 at_found test (Some ps) = test ps
 
 module _ (s : ℕ) (t : List ℕ) where
-  any_found : (n : ℕ) (ns : List Named) → AllKeys order IsSome_ ns → rises order ns ≡ true → list_any (has_position s t n) (entries_named ns) ≡ at_found (λ ps. has_number (firsts ps) n) (find order (s ∷ t) ns)
+  any_found : (n : ℕ) (ns : List Named) → AllKeys named_order IsSome_ ns → rises named_order ns ≡ true → list_any (has_position s t n) (entries_named ns) ≡ at_found (λ ps. has_number (firsts ps) n) (find named_order (s ∷ t) ns)
   any_found n [] some up = refl
   any_found n (([], places) ∷ ns) some up = let none = some.0 in absurd (omega (arith, none))
   any_found n ((stream ∷ token, places) ∷ ns) some up =
-      let b = and_parts (below order (stream ∷ token) ns) (rises order ns) up in
+      let b = and_parts (below named_order (stream ∷ token) ns) (rises named_order ns) up in
       ap (λ (x : Bool). (x && has_number (firsts places) n) || list_any (has_position s t n) (entries_named ns)) (named_so s t stream token)
-      ∙ ap (λ (x : Bool). (eq_by_cmp order (s ∷ t) (stream ∷ token) && has_number (firsts places) n) || x) (any_found n ns some.1 b.1)
-      ∙ go (eq_by_cmp order (s ∷ t) (stream ∷ token)) refl b.0
+      ∙ ap (λ (x : Bool). (eq_by_cmp named_order (s ∷ t) (stream ∷ token) && has_number (firsts places) n) || x) (any_found n ns some.1 b.1)
+      ∙ go (eq_by_cmp named_order (s ∷ t) (stream ∷ token)) refl b.0
     where
       or_false : (x : Bool) → (x || false) ≡ x
       or_false true = refl
       or_false false = refl
 
-      go : (b : Bool) → eq_by_cmp order (s ∷ t) (stream ∷ token) ≡ b → below order (stream ∷ token) ns ≡ true
-          → ((b && has_number (firsts places) n) || at_found (λ ps. has_number (firsts ps) n) (find order (s ∷ t) ns)) ≡ at_found (λ ps. has_number (firsts ps) n) (cond b (Some places) (find order (s ∷ t) ns))
+      go : (b : Bool) → eq_by_cmp named_order (s ∷ t) (stream ∷ token) ≡ b → below named_order (stream ∷ token) ns ≡ true
+          → ((b && has_number (firsts places) n) || at_found (λ ps. has_number (firsts ps) n) (find named_order (s ∷ t) ns)) ≡ at_found (λ ps. has_number (firsts ps) n) (cond b (Some places) (find named_order (s ∷ t) ns))
       go true tie low = ap (λ (o : Option (List Pair)). has_number (firsts places) n || at_found (λ ps. has_number (firsts ps) n) o) (behind (s ∷ t) (stream ∷ token, places) ns tie low) ∙ or_false (has_number (firsts places) n)
       go false tie low = refl
 
-  pairs_found : (ns : List Named) → AllKeys order IsSome_ ns → rises order ns ≡ true → flat_map (λ (e : DocEntry). e.places) (filter (is_named s t) (entries_named ns)) ≡ had (find order (s ∷ t) ns)
+  pairs_found : (ns : List Named) → AllKeys named_order IsSome_ ns → rises named_order ns ≡ true → flat_map (λ (e : DocEntry). e.places) (filter (is_named s t) (entries_named ns)) ≡ had (find named_order (s ∷ t) ns)
   pairs_found [] some up = refl
   pairs_found (([], places) ∷ ns) some up = let none = some.0 in absurd (omega (arith, none))
   pairs_found ((stream ∷ token, places) ∷ ns) some up =
-      let b = and_parts (below order (stream ∷ token) ns) (rises order ns) up in
+      let b = and_parts (below named_order (stream ∷ token) ns) (rises named_order ns) up in
       let rest = filter (is_named s t) (entries_named ns) in
       ap (λ (x : Bool). flat_map (λ (e : DocEntry). e.places) (cond x (record { stream = stream; token = token; places = places } ∷ rest) rest)) (named_so s t stream token)
-      ∙ go (eq_by_cmp order (s ∷ t) (stream ∷ token)) refl b.0 (pairs_found ns some.1 b.1)
+      ∙ go (eq_by_cmp named_order (s ∷ t) (stream ∷ token)) refl b.0 (pairs_found ns some.1 b.1)
     where
       none_behind : (ps : List Pair) → ps ++ [] ≡ ps
       none_behind [] = refl
       none_behind (p ∷ ps) = ap (λ (l : List Pair). p ∷ l) (none_behind ps)
 
-      go : (b : Bool) → eq_by_cmp order (s ∷ t) (stream ∷ token) ≡ b → below order (stream ∷ token) ns ≡ true
-          → flat_map (λ (e : DocEntry). e.places) (filter (is_named s t) (entries_named ns)) ≡ had (find order (s ∷ t) ns)
+      go : (b : Bool) → eq_by_cmp named_order (s ∷ t) (stream ∷ token) ≡ b → below named_order (stream ∷ token) ns ≡ true
+          → flat_map (λ (e : DocEntry). e.places) (filter (is_named s t) (entries_named ns)) ≡ had (find named_order (s ∷ t) ns)
           → flat_map (λ (e : DocEntry). e.places) (cond b (record { stream = stream; token = token; places = places } ∷ filter (is_named s t) (entries_named ns)) (filter (is_named s t) (entries_named ns)))
-          ≡ had (cond b (Some places) (find order (s ∷ t) ns))
+          ≡ had (cond b (Some places) (find named_order (s ∷ t) ns))
       go true tie low rest = ap (λ (l : List Pair). places ++ l) (rest ∙ ap had (behind (s ∷ t) (stream ∷ token, places) ns tie low)) ∙ none_behind places
       go false tie low rest = rest
 
@@ -162,8 +163,8 @@ module _ (p : Prefs) (text : List ℕ) where
   abbrev names : List Named
   names = fin.entries (place_map places)
 
-  some_names : AllKeys order IsSome_ names
-  some_names = all_keys order nat_list_cmp_total IsSome_ (place_map places) (λ name ps found. some name ps found (sym (get-place_map places name) ∙ found))
+  some_names : AllKeys named_order IsSome_ names
+  some_names = all_keys named_order nat_list_cmp_total IsSome_ (place_map places) (λ name ps found. some name ps found (sym (get-place_map places name) ∙ found))
     where
       some : (name : List ℕ) (ps : List Pair) → get (place_map places) name ≡ Some ps → if_any (places_under name places) ≡ Some ps → 1 ≤ length name
       some [] ps found is =
@@ -171,7 +172,7 @@ module _ (p : Prefs) (text : List ℕ) where
           cc
       some (n ∷ name) ps found is = omega arith
 
-  found_under : (name : List ℕ) → find order name names ≡ if_any (places_under name places)
+  found_under : (name : List ℕ) → find named_order name names ≡ if_any (places_under name places)
   found_under name = sym (get-entries (place_map places) name) ∙ get-place_map places name
 
   -- the pairs of a section, among all places
@@ -191,12 +192,12 @@ entries_are_postings p text is short =
     let d = document p (chars text) in
     record {
       positions = λ s t n low.
-          any_found s t n (names p text) (some_names p text) (entries_rise order (place_map (places_of d)))
+          any_found s t n (names p text) (some_names p text) (entries_rise named_order (place_map (places_of d)))
           ∙ ap (at_found (λ ps. has_number (firsts ps) n)) (found_under p text (s ∷ t) ∙ ap if_any (places_are_positions p text s t low))
           ∙ firsts_same n (positions_of s t d.words)
           ∙ positions_stand s t d.words n;
       pairs = λ name.
-          pairs_found section_stream name (names p text) (some_names p text) (entries_rise order (place_map (places_of d)))
+          pairs_found section_stream name (names p text) (some_names p text) (entries_rise named_order (place_map (places_of d)))
           ∙ ap had (found_under p text (section_stream ∷ name))
           ∙ had_any p text (places_under (section_stream ∷ name) (places_of d))
           ∙ section_places p text is short name;

@@ -11,11 +11,10 @@ use Rattle.q_tree.specs.declared.flats.Slot.{Slot}
 use Rattle.q_tree.specs.declared.flats.Slot.TheVariants.{Any, Takes}
 use Rattle.q_tree.specs.declared.flats.Place.TheVariants.{Zone, Field, Sentence, Paragraph}
 use Rattle.q_tree.specs.ReducedQueries.{Reduced, Term, Both, Weight, Above, Near, Within, Define}
-use Rattle.q_tree.specs.Soundness.{is_between, is_key, slot_keys_rise, is_slot, takes_some, ends_well, is_phrase, is_term, is_sound}
+use Rattle.q_tree.specs.Soundness.{is_between, is_key, slot_keys_rise, is_slot, takes_some, ends_well, is_phrase, is_term, is_sum, is_sound}
 use Rattle.q_tree.specs.Scores.{DocPostings, slot_positions, phrase_slots, term_slots, operand_slots, near_score, define_score, greatest_within, operated, weighted, if_above, score}
 use Rattle.ix_search.specs.Promises.{PartsScoreAlike}
-use Rattle.ix_cursor.specs.Reading.{IsPlain}
-use Rattle.ix_search.specs.Parts.{slot_has_keys_alone, phrase_has_keys_alone, term_has_keys_alone, has_keys_alone, OfSlot, OfPhrase, OfTerm, OfOperands, OfParts, keys_of}
+use Rattle.ix_search.specs.Parts.{OfSlot, OfPhrase, OfTerm, OfOperands, OfParts, keys_of}
 
 -- ---- one score
 
@@ -95,14 +94,13 @@ module _ (P R : ℕ → Slot → Type 0) (so : (s : ℕ) (slot : Slot) → P s s
   parts_so Q S also (Within Paragraph a) s h = (also (codes "paragraph") h.0, parts_so Q S also a s h.1)
   parts_so Q S also (Define phrases sum) s h = term_so s phrases h
 
--- ---- the streams and keys of a sound query without patterns
+-- ---- the streams and keys of a sound query
 
--- a stream that there is, and a slot with keys of 1 to 255 bytes and no pattern
-pub record CanBeRead (s : ℕ) (slot : Slot) : Type 0 where
+-- a stream that there is, and a slot with keys of 1 to 255 bytes, or patterns
+pub record IsSlotPart (s : ℕ) (slot : Slot) : Type 0 where
   pub some : takes_some slot ≡ true
   pub stream : s ≤ stream_limit
   pub keys : EachIs IsToken (keys_of slot)
-  pub alone : slot_has_keys_alone slot ≡ true
 
 abbrev pub AnyName : List ℕ → Type 0
 AnyName name = Unit {0}
@@ -115,61 +113,41 @@ tokens_are (k ∷ ks) h =
     (record { some = leb-true 1 (length k) q.0; short = leb-true (length k) token_limit q.1 }, tokens_are ks p.1)
 
 module _ (s : ℕ) (low : s ≤ stream_limit) where
-  slots_read : (slots : List Slot) → list_all is_slot slots ≡ true → phrase_has_keys_alone slots ≡ true → OfPhrase CanBeRead s slots
-  slots_read [] h alone = tt
-  slots_read (Any ∷ slots) h alone = (tt, slots_read slots h alone)
-  slots_read (Takes keys patterns ∷ slots) h alone =
+  slots_read : (slots : List Slot) → list_all is_slot slots ≡ true → OfPhrase IsSlotPart s slots
+  slots_read [] h = tt
+  slots_read (Any ∷ slots) h = (tt, slots_read slots h)
+  slots_read (Takes keys patterns ∷ slots) h =
       let p = and_parts (is_slot (Takes keys patterns)) (list_all is_slot slots) h in
       let q = and_parts (nat_le 1 (length keys + length patterns) && slot_keys_rise keys) (list_all is_key keys) p.0 in
-      let a = and_parts (slot_has_keys_alone (Takes keys patterns)) (phrase_has_keys_alone slots) alone in
-      (record { some = refl; stream = low; keys = tokens_are keys q.1; alone = a.0 }, slots_read slots p.1 a.1)
+      (record { some = refl; stream = low; keys = tokens_are keys q.1 }, slots_read slots p.1)
 
-  phrase_read : (phrase : List Slot) → is_phrase phrase ≡ true → phrase_has_keys_alone phrase ≡ true → OfPhrase CanBeRead s phrase
-  phrase_read [] h alone = tt
-  phrase_read (x ∷ xs) h alone = slots_read (x ∷ xs) (and_parts (takes_some x && ends_well (x ∷ xs)) (list_all is_slot (x ∷ xs)) h).1 alone
+  phrase_read : (phrase : List Slot) → is_phrase phrase ≡ true → OfPhrase IsSlotPart s phrase
+  phrase_read [] h = tt
+  phrase_read (x ∷ xs) h = slots_read (x ∷ xs) (and_parts (takes_some x && ends_well (x ∷ xs)) (list_all is_slot (x ∷ xs)) h).1
 
-  phrases_read : (phrases : List (List Slot)) → list_all is_phrase phrases ≡ true → term_has_keys_alone phrases ≡ true → OfTerm CanBeRead s phrases
-  phrases_read [] h alone = tt
-  phrases_read (x ∷ xs) h alone =
-      let p = and_parts (is_phrase x) (list_all is_phrase xs) h in
-      let a = and_parts (phrase_has_keys_alone x) (term_has_keys_alone xs) alone in
-      (phrase_read x p.0 a.0, phrases_read xs p.1 a.1)
+  phrases_read : (phrases : List (List Slot)) → list_all is_phrase phrases ≡ true → OfTerm IsSlotPart s phrases
+  phrases_read [] h = tt
+  phrases_read (x ∷ xs) h = let p = and_parts (is_phrase x) (list_all is_phrase xs) h in (phrase_read x p.0, phrases_read xs p.1)
 
-  term_read : (phrases : List (List Slot)) → is_term phrases ≡ true → term_has_keys_alone phrases ≡ true → OfTerm CanBeRead s phrases
-  term_read phrases h alone = phrases_read phrases (and_parts (nat_le 1 (length phrases)) (list_all is_phrase phrases) h).1 alone
+  term_read : (phrases : List (List Slot)) → is_term phrases ≡ true → OfTerm IsSlotPart s phrases
+  term_read phrases h = phrases_read phrases (and_parts (nat_le 1 (length phrases)) (list_all is_phrase phrases) h).1
 
-  operands_read : (operands : List (List (List Slot))) → list_all is_term operands ≡ true → list_all term_has_keys_alone operands ≡ true → OfOperands CanBeRead s operands
-  operands_read [] h alone = tt
-  operands_read (x ∷ xs) h alone =
-      let p = and_parts (is_term x) (list_all is_term xs) h in
-      let a = and_parts (term_has_keys_alone x) (list_all term_has_keys_alone xs) alone in
-      (term_read x p.0 a.0, operands_read xs p.1 a.1)
+  operands_read : (operands : List (List (List Slot))) → list_all is_term operands ≡ true → OfOperands IsSlotPart s operands
+  operands_read [] h = tt
+  operands_read (x ∷ xs) h = let p = and_parts (is_term x) (list_all is_term xs) h in (term_read x p.0, operands_read xs p.1)
 
-pub parts_read : (f : Reduced) → is_sound f ≡ true → has_keys_alone f ≡ true → (s : ℕ) → s ≤ stream_limit → OfParts CanBeRead AnyName f s
-parts_read (Term phrases) h alone s low = term_read s low phrases h alone
-parts_read (Both op a b) h alone s low =
-    let p = and_parts (is_sound a) (is_sound b) h in
-    let k = and_parts (has_keys_alone a) (has_keys_alone b) alone in
-    (parts_read a p.0 k.0 s low, parts_read b p.1 k.1 s low)
-parts_read (Weight w a) h alone s low = parts_read a (and_parts (is_between 1 100 w) (is_sound a) h).1 alone s low
-parts_read (Above n a) h alone s low = parts_read a (and_parts (nat_le n 100) (is_sound a) h).1 alone s low
-parts_read (Near operands span ordered) h alone s low =
+pub parts_read : (f : Reduced) → is_sound f ≡ true → (s : ℕ) → s ≤ stream_limit → OfParts IsSlotPart AnyName f s
+parts_read (Term phrases) h s low = term_read s low phrases h
+parts_read (Both op a b) h s low = let p = and_parts (is_sound a) (is_sound b) h in (parts_read a p.0 s low, parts_read b p.1 s low)
+parts_read (Weight w a) h s low = parts_read a (and_parts (is_between 1 100 w) (is_sound a) h).1 s low
+parts_read (Above n a) h s low = parts_read a (and_parts (nat_le n 100) (is_sound a) h).1 s low
+parts_read (Near operands span ordered) h s low =
     let p = and_parts (is_between 2 16 (length operands) && list_all is_term operands) (nat_le span 100) h in
-    operands_read s low operands (and_parts (is_between 2 16 (length operands)) (list_all is_term operands) p.0).1 alone
-parts_read (Within (Field f) a) h alone s low =
+    operands_read s low operands (and_parts (is_between 2 16 (length operands)) (list_all is_term operands) p.0).1
+parts_read (Within (Field f) a) h s low =
     let p = and_parts (is_between 1 stream_limit f) (is_sound a) h in
-    parts_read a p.1 alone f (leb-true f stream_limit (and_parts (nat_le 1 f) (nat_le f stream_limit) p.0).1)
-parts_read (Within (Zone name) a) h alone s low = (tt, parts_read a h alone s low)
-parts_read (Within Sentence a) h alone s low = (tt, parts_read a h alone s low)
-parts_read (Within Paragraph a) h alone s low = (tt, parts_read a h alone s low)
-parts_read (Define phrases sum) h alone s low = cc
-
--- a query without patterns is one that a cursor is built for
-pub alone_is_plain : (f : Reduced) → has_keys_alone f ≡ true → IsPlain f
-alone_is_plain (Term phrases) alone = tt
-alone_is_plain (Both op a b) alone = let k = and_parts (has_keys_alone a) (has_keys_alone b) alone in (alone_is_plain a k.0, alone_is_plain b k.1)
-alone_is_plain (Weight w a) alone = alone_is_plain a alone
-alone_is_plain (Above n a) alone = alone_is_plain a alone
-alone_is_plain (Near operands span ordered) alone = tt
-alone_is_plain (Within place a) alone = alone_is_plain a alone
-alone_is_plain (Define phrases sum) alone = cc
+    parts_read a p.1 f (leb-true f stream_limit (and_parts (nat_le 1 f) (nat_le f stream_limit) p.0).1)
+parts_read (Within (Zone name) a) h s low = (tt, parts_read a h s low)
+parts_read (Within Sentence a) h s low = (tt, parts_read a h s low)
+parts_read (Within Paragraph a) h s low = (tt, parts_read a h s low)
+parts_read (Define phrases sum) h s low = term_read s low phrases (and_parts (is_term phrases) (is_sum sum) h).0

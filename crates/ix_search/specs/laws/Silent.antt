@@ -4,16 +4,15 @@ use Rattle.std.specs.List.{list_all}
 use Rattle.std.proofs.lemmas.Bool.{and_parts}
 use Rattle.ct_base.specs.Limits.{stream_limit}
 use Rattle.ct_base.specs.declared.numbers.Pair.{Pair}
-use Rattle.ix_spans.specs.Occurrences.{near_holds, phrase_starts, pairs_from, more_slots, phrase_pairs, phrase_score, term_score, term_pairs}
+use Rattle.ix_spans.specs.Occurrences.{near_holds, phrase_starts, pairs_from, more_slots, phrase_pairs, phrase_score, term_score, term_pairs, distinct}
 use Rattle.q_tree.specs.declared.flats.Slot.{Slot}
 use Rattle.q_tree.specs.declared.flats.Slot.TheVariants.{Any, Takes}
 use Rattle.q_tree.specs.declared.flats.Place.TheVariants.{Zone, Field, Sentence, Paragraph}
 use Rattle.q_tree.specs.declared.queries.Op.{Op}
 use Rattle.q_tree.specs.declared.queries.Op.TheVariants.{Or, And, Not, Minus}
 use Rattle.q_tree.specs.ReducedQueries.{Reduced, Term, Both, Weight, Above, Near, Within, Define}
-use Rattle.q_tree.specs.Soundness.{is_between, is_phrase, is_term, is_sound}
-use Rattle.q_tree.specs.Scores.{DocPostings, phrase_slots, term_slots, operand_slots, if_near, near_score, operated, weighted, if_above, score}
-use Rattle.ix_search.specs.Parts.{has_keys_alone}
+use Rattle.q_tree.specs.Soundness.{is_between, is_phrase, is_term, is_sum, is_sound}
+use Rattle.q_tree.specs.Scores.{DocPostings, phrase_slots, term_slots, operand_slots, if_near, near_score, operated, weighted, if_above, defined, score}
 
 -- a document of which nothing is known
 abbrev pub no_postings : DocPostings
@@ -71,20 +70,22 @@ silent_above n = go (nat_lt n 0)
     go false = refl
 
 -- over no pair there is no score
-pub silent_score : (f : Reduced) → is_sound f ≡ true → has_keys_alone f ≡ true → (s lo hi : ℕ) → score f no_postings s lo hi ≡ 0
-silent_score (Term phrases) h alone s lo hi = silent_term s lo hi phrases (and_parts (nat_le 1 (length phrases)) (list_all is_phrase phrases) h).1
-silent_score (Both op a b) h alone s lo hi =
+pub silent_score : (f : Reduced) → is_sound f ≡ true → (s lo hi : ℕ) → score f no_postings s lo hi ≡ 0
+silent_score (Term phrases) h s lo hi = silent_term s lo hi phrases (and_parts (nat_le 1 (length phrases)) (list_all is_phrase phrases) h).1
+silent_score (Both op a b) h s lo hi =
     let p = and_parts (is_sound a) (is_sound b) h in
-    let k = and_parts (has_keys_alone a) (has_keys_alone b) alone in
-    ap (λ n. operated op n (score b no_postings s lo hi)) (silent_score a p.0 k.0 s lo hi) ∙ ap (operated op 0) (silent_score b p.1 k.1 s lo hi) ∙ silent_joined op
-silent_score (Weight w a) h alone s lo hi = ap (weighted w) (silent_score a (and_parts (is_between 1 100 w) (is_sound a) h).1 alone s lo hi) ∙ silent_weight w
-silent_score (Above n a) h alone s lo hi = ap (if_above n) (silent_score a (and_parts (nat_le n 100) (is_sound a) h).1 alone s lo hi) ∙ silent_above n
-silent_score (Near operands span ordered) h alone s lo hi =
+    ap (λ n. operated op n (score b no_postings s lo hi)) (silent_score a p.0 s lo hi) ∙ ap (operated op 0) (silent_score b p.1 s lo hi) ∙ silent_joined op
+silent_score (Weight w a) h s lo hi = ap (weighted w) (silent_score a (and_parts (is_between 1 100 w) (is_sound a) h).1 s lo hi) ∙ silent_weight w
+silent_score (Above n a) h s lo hi = ap (if_above n) (silent_score a (and_parts (nat_le n 100) (is_sound a) h).1 s lo hi) ∙ silent_above n
+silent_score (Near operands span ordered) h s lo hi =
     let p = and_parts (is_between 2 16 (length operands) && list_all is_term operands) (nat_le span 100) h in
     let q = and_parts (is_between 2 16 (length operands)) (list_all is_term operands) p.0 in
     silent_near s lo hi operands span ordered q.0 q.1
-silent_score (Within (Field f) a) h alone s lo hi = silent_score a (and_parts (is_between 1 stream_limit f) (is_sound a) h).1 alone f lo hi
-silent_score (Within (Zone name) a) h alone s lo hi = refl
-silent_score (Within Sentence a) h alone s lo hi = refl
-silent_score (Within Paragraph a) h alone s lo hi = refl
-silent_score (Define phrases sum) h alone s lo hi = cc
+silent_score (Within (Field f) a) h s lo hi = silent_score a (and_parts (is_between 1 stream_limit f) (is_sound a) h).1 f lo hi
+silent_score (Within (Zone name) a) h s lo hi = refl
+silent_score (Within Sentence a) h s lo hi = refl
+silent_score (Within Paragraph a) h s lo hi = refl
+silent_score (Define phrases sum) h s lo hi =
+    let p = and_parts (is_term phrases) (is_sum sum) h in
+    let q = and_parts (nat_le 1 (length phrases)) (list_all is_phrase phrases) p.0 in
+    ap (λ ps. defined (length (distinct ps)) sum) (silent_pairs s lo hi phrases q.1)

@@ -1,8 +1,8 @@
 -- The slots and sections that are read are those of the query.
 use Rattle.std.proofs.Common.{ℕ, ◌≡◌, eqb, ◌&&◌, ◌||◌, Bool, true, false, cond, List, [], ◌∷◌, ◌++◌, codes, refl, ap, eq-eqb}
-use Rattle.std.specs.List.{list_any, list_all}
+use Rattle.std.specs.List.{list_any}
 use Rattle.std.specs.Prelude.{bytes_eq}
-use Rattle.std.proofs.lemmas.Bool.{and_parts, and_from}
+use Rattle.std.proofs.lemmas.Bool.{and_from}
 use Rattle.std.proofs.lemmas.Slice.Eq.{bytes_eq-Decides}
 use Rattle.ct_entry.specs.Lists.{EachIs}
 use Rattle.q_tree.specs.declared.flats.Slot.{Slot}
@@ -12,7 +12,7 @@ use Rattle.q_tree.specs.Slots.{same_slot, has_key}
 use Rattle.q_tree.specs.laws.SameSlots.{slots_decide}
 use Rattle.q_tree.specs.ReducedQueries.{Reduced, Term, Both, Weight, Above, Near, Within, Define}
 use Rattle.ix_search.specs.declared.wanting.Wanted.{Wanted}
-use Rattle.ix_search.specs.Parts.{slot_has_keys_alone, phrase_has_keys_alone, term_has_keys_alone, has_keys_alone, OfSlot, OfPhrase, OfTerm, OfOperands, OfParts}
+use Rattle.ix_search.specs.Parts.{OfSlot, OfPhrase, OfTerm, OfOperands, OfParts}
 use Rattle.ix_search.specs.Wanting.{wanted, is_wanted, with_slot, with_phrase, with_term, with_operands, with_slots, with_name, with_names}
 use Rattle.ix_search.specs.laws.Parts.{slot_so, phrase_so, term_so, parts_so}
 
@@ -51,12 +51,11 @@ Stays ws vs = (s : ℕ) (slot : Slot) → IsThere ws s slot → IsThere vs s slo
 
 slot_stays : (s : ℕ) (slot : Slot) (ws : List Wanted) → Stays ws (with_slot s slot ws)
 slot_stays s Any ws t other h = h
-slot_stays s (Takes keys (p ∷ ps)) ws t other h = h
-slot_stays s (Takes keys []) ws t other h = go (is_wanted ws s (Takes keys []))
+slot_stays s (Takes keys patterns) ws t other h = go (is_wanted ws s (Takes keys patterns))
   where
-    go : (b : Bool) → IsThere (cond b ws (ws ++ wanted s (Takes keys []) ∷ [])) t other
+    go : (b : Bool) → IsThere (cond b ws (ws ++ wanted s (Takes keys patterns) ∷ [])) t other
     go true = h
-    go false = any_still (λ (w : Wanted). eqb w.stream t && same_slot w.slot other) ws (wanted s (Takes keys []) ∷ []) h
+    go false = any_still (λ (w : Wanted). eqb w.stream t && same_slot w.slot other) ws (wanted s (Takes keys patterns) ∷ []) h
 
 phrase_stays : (s : ℕ) (phrase : List Slot) (ws : List Wanted) → Stays ws (with_phrase s phrase ws)
 phrase_stays s [] ws t other h = h
@@ -103,38 +102,34 @@ names_stay (Define phrases sum) ns other h = h
 
 -- ---- each part is there
 
-slot_there : (s : ℕ) (slot : Slot) (ws : List Wanted) → slot_has_keys_alone slot ≡ true → OfSlot (IsThere (with_slot s slot ws)) s slot
-slot_there s Any ws alone = tt
-slot_there s (Takes keys (p ∷ ps)) ws alone = cc
-slot_there s (Takes keys []) ws alone = go (is_wanted ws s (Takes keys [])) refl
+slot_there : (s : ℕ) (slot : Slot) (ws : List Wanted) → OfSlot (IsThere (with_slot s slot ws)) s slot
+slot_there s Any ws = tt
+slot_there s (Takes keys patterns) ws = go (is_wanted ws s (Takes keys patterns)) refl
   where
-    itself : (eqb s s && same_slot (Takes keys []) (Takes keys [])) ≡ true
-    itself = and_from (eqb s s) (same_slot (Takes keys []) (Takes keys [])) (eq-eqb s s refl) ((slots_decide (Takes keys []) (Takes keys [])).1 refl)
+    itself : (eqb s s && same_slot (Takes keys patterns) (Takes keys patterns)) ≡ true
+    itself = and_from (eqb s s) (same_slot (Takes keys patterns) (Takes keys patterns)) (eq-eqb s s refl) ((slots_decide (Takes keys patterns) (Takes keys patterns)).1 refl)
 
-    go : (b : Bool) → is_wanted ws s (Takes keys []) ≡ b → IsThere (cond b ws (ws ++ wanted s (Takes keys []) ∷ [])) s (Takes keys [])
+    go : (b : Bool) → is_wanted ws s (Takes keys patterns) ≡ b → IsThere (cond b ws (ws ++ wanted s (Takes keys patterns) ∷ [])) s (Takes keys patterns)
     go true is = is
-    go false is = any_last (λ (w : Wanted). eqb w.stream s && same_slot w.slot (Takes keys [])) ws (wanted s (Takes keys [])) itself
+    go false is = any_last (λ (w : Wanted). eqb w.stream s && same_slot w.slot (Takes keys patterns)) ws (wanted s (Takes keys patterns)) itself
 
-phrase_there : (s : ℕ) (phrase : List Slot) (ws : List Wanted) → phrase_has_keys_alone phrase ≡ true → OfPhrase (IsThere (with_phrase s phrase ws)) s phrase
-phrase_there s [] ws alone = tt
-phrase_there s (x ∷ xs) ws alone =
-    let p = and_parts (slot_has_keys_alone x) (phrase_has_keys_alone xs) alone in
+phrase_there : (s : ℕ) (phrase : List Slot) (ws : List Wanted) → OfPhrase (IsThere (with_phrase s phrase ws)) s phrase
+phrase_there s [] ws = tt
+phrase_there s (x ∷ xs) ws =
     let now = with_slot s x ws in
-    (slot_so (IsThere now) (IsThere (with_phrase s xs now)) (phrase_stays s xs now) s x (slot_there s x ws p.0), phrase_there s xs now p.1)
+    (slot_so (IsThere now) (IsThere (with_phrase s xs now)) (phrase_stays s xs now) s x (slot_there s x ws), phrase_there s xs now)
 
-term_there : (s : ℕ) (phrases : List (List Slot)) (ws : List Wanted) → term_has_keys_alone phrases ≡ true → OfTerm (IsThere (with_term s phrases ws)) s phrases
-term_there s [] ws alone = tt
-term_there s (x ∷ xs) ws alone =
-    let p = and_parts (phrase_has_keys_alone x) (term_has_keys_alone xs) alone in
+term_there : (s : ℕ) (phrases : List (List Slot)) (ws : List Wanted) → OfTerm (IsThere (with_term s phrases ws)) s phrases
+term_there s [] ws = tt
+term_there s (x ∷ xs) ws =
     let now = with_phrase s x ws in
-    (phrase_so (IsThere now) (IsThere (with_term s xs now)) (term_stays s xs now) s x (phrase_there s x ws p.0), term_there s xs now p.1)
+    (phrase_so (IsThere now) (IsThere (with_term s xs now)) (term_stays s xs now) s x (phrase_there s x ws), term_there s xs now)
 
-operands_there : (s : ℕ) (operands : List (List (List Slot))) (ws : List Wanted) → list_all term_has_keys_alone operands ≡ true → OfOperands (IsThere (with_operands s operands ws)) s operands
-operands_there s [] ws alone = tt
-operands_there s (x ∷ xs) ws alone =
-    let p = and_parts (term_has_keys_alone x) (list_all term_has_keys_alone xs) alone in
+operands_there : (s : ℕ) (operands : List (List (List Slot))) (ws : List Wanted) → OfOperands (IsThere (with_operands s operands ws)) s operands
+operands_there s [] ws = tt
+operands_there s (x ∷ xs) ws =
     let now = with_term s x ws in
-    (term_so (IsThere now) (IsThere (with_operands s xs now)) (operands_stay s xs now) s x (term_there s x ws p.0), operands_there s xs now p.1)
+    (term_so (IsThere now) (IsThere (with_operands s xs now)) (operands_stay s xs now) s x (term_there s x ws), operands_there s xs now)
 
 name_there : (name : List ℕ) (ns : List (List ℕ)) → IsAmongNames (with_name name ns) name
 name_there name ns = go (has_key ns name) refl
@@ -143,22 +138,21 @@ name_there name ns = go (has_key ns name) refl
     go true is = is
     go false is = any_last (λ k. bytes_eq k name) ns name ((bytes_eq-Decides name name).1 refl)
 
--- EACH SLOT AND SECTION of a query without patterns is among those that are read
-pub parts_there : (f : Reduced) (s : ℕ) (ws : List Wanted) (ns : List (List ℕ)) → has_keys_alone f ≡ true → OfParts (IsThere (with_slots f s ws)) (IsAmongNames (with_names f ns)) f s
-parts_there (Term phrases) s ws ns alone = term_there s phrases ws alone
-parts_there (Both op a b) s ws ns alone =
-    let p = and_parts (has_keys_alone a) (has_keys_alone b) alone in
+-- EACH SLOT AND SECTION of a query is among those that are read
+pub parts_there : (f : Reduced) (s : ℕ) (ws : List Wanted) (ns : List (List ℕ)) → OfParts (IsThere (with_slots f s ws)) (IsAmongNames (with_names f ns)) f s
+parts_there (Term phrases) s ws ns = term_there s phrases ws
+parts_there (Both op a b) s ws ns =
     let now = with_slots a s ws in
     let named = with_names a ns in
-    (parts_so (IsThere now) (IsThere (with_slots b s now)) (slots_stay b s now) (IsAmongNames named) (IsAmongNames (with_names b named)) (names_stay b named) a s (parts_there a s ws ns p.0), parts_there b s now named p.1)
-parts_there (Weight w a) s ws ns alone = parts_there a s ws ns alone
-parts_there (Above n a) s ws ns alone = parts_there a s ws ns alone
-parts_there (Near operands span ordered) s ws ns alone = operands_there s operands ws alone
-parts_there (Within (Field f) a) s ws ns alone = parts_there a f ws ns alone
-parts_there (Within (Zone name) a) s ws ns alone = (names_stay a (with_name name ns) name (name_there name ns), parts_there a s ws (with_name name ns) alone)
-parts_there (Within Sentence a) s ws ns alone = (names_stay a (with_name (codes "sentence") ns) (codes "sentence") (name_there (codes "sentence") ns), parts_there a s ws (with_name (codes "sentence") ns) alone)
-parts_there (Within Paragraph a) s ws ns alone = (names_stay a (with_name (codes "paragraph") ns) (codes "paragraph") (name_there (codes "paragraph") ns), parts_there a s ws (with_name (codes "paragraph") ns) alone)
-parts_there (Define phrases sum) s ws ns alone = cc
+    (parts_so (IsThere now) (IsThere (with_slots b s now)) (slots_stay b s now) (IsAmongNames named) (IsAmongNames (with_names b named)) (names_stay b named) a s (parts_there a s ws ns), parts_there b s now named)
+parts_there (Weight w a) s ws ns = parts_there a s ws ns
+parts_there (Above n a) s ws ns = parts_there a s ws ns
+parts_there (Near operands span ordered) s ws ns = operands_there s operands ws
+parts_there (Within (Field f) a) s ws ns = parts_there a f ws ns
+parts_there (Within (Zone name) a) s ws ns = (names_stay a (with_name name ns) name (name_there name ns), parts_there a s ws (with_name name ns))
+parts_there (Within Sentence a) s ws ns = (names_stay a (with_name (codes "sentence") ns) (codes "sentence") (name_there (codes "sentence") ns), parts_there a s ws (with_name (codes "sentence") ns))
+parts_there (Within Paragraph a) s ws ns = (names_stay a (with_name (codes "paragraph") ns) (codes "paragraph") (name_there (codes "paragraph") ns), parts_there a s ws (with_name (codes "paragraph") ns))
+parts_there (Define phrases sum) s ws ns = term_there s phrases ws
 
 -- ---- what holds of each slot of the query holds of each that is read
 
@@ -168,12 +162,11 @@ module _ (P : ℕ → Slot → Type 0) where
 
   slot_each : (s : ℕ) (slot : Slot) (ws : List Wanted) → OfSlot P s slot → EachIs Holds ws → EachIs Holds (with_slot s slot ws)
   slot_each s Any ws h each = each
-  slot_each s (Takes keys (p ∷ ps)) ws h each = each
-  slot_each s (Takes keys []) ws h each = go (is_wanted ws s (Takes keys []))
+  slot_each s (Takes keys patterns) ws h each = go (is_wanted ws s (Takes keys patterns))
     where
-      go : (b : Bool) → EachIs Holds (cond b ws (ws ++ wanted s (Takes keys []) ∷ []))
+      go : (b : Bool) → EachIs Holds (cond b ws (ws ++ wanted s (Takes keys patterns) ∷ []))
       go true = each
-      go false = each_last Holds ws (wanted s (Takes keys [])) each h
+      go false = each_last Holds ws (wanted s (Takes keys patterns)) each h
 
   phrase_each : (s : ℕ) (phrase : List Slot) (ws : List Wanted) → OfPhrase P s phrase → EachIs Holds ws → EachIs Holds (with_phrase s phrase ws)
   phrase_each s [] ws h each = each

@@ -3,10 +3,11 @@ use Rattle.std.proofs.lemmas.Grind.{common_steps}
 use Rattle.ct_base.specs.Names.{IsName}
 use Rattle.ct_keep.specs.laws.Composing.{reads_on, reads_hold}
 use Rattle.ct_entry.specs.Lists.{EachIs}
+use Rattle.ix_tokens.specs.laws.Looks.{looks_end}
 use Rattle.ix_search.specs.Reading.{HoldsName, section_feed}
 use Rattle.ix_search.proofs.ReadSteps.{read_on, read_ends, sections_rise}
 use Rattle.ix_search.specs.Looking.{names_looks, name_looks}
-use Rattle.ix_search.proofs.LookSteps.{looks_on, looks_end}
+use Rattle.ix_search.proofs.LookSteps.{looks_on}
 use Rattle.ix_search.proofs.reading.read_names.Goals as goal
 
 pub loop-name-preserved : goal.loop-name-preserved

@@ -4,8 +4,9 @@ use Rattle.ct_keep.specs.Content.{Content}
 use Rattle.ct_keep.specs.KeeperViews.{ReadsKeeper}
 use Rattle.ct_entry.specs.Lists.{EachIs}
 use Rattle.ix_cursor.specs.Reading.{SectionFeedsRise}
+use Rattle.ix_tokens.specs.Looking.{LooksLeft}
 use Rattle.ix_search.specs.Reading.{NameRows, HoldsName, section_feed}
-use Rattle.ix_search.specs.Looking.{names_looks, LooksLeft}
+use Rattle.ix_search.specs.Looking.{names_looks}
 use Rattle.ix_search.proofs.ReadSteps.{ReadSoFar}
 use Rattle.ix_search.proofs.reading.read_names.Given as goal
 

@@ -1,0 +1,6 @@
+pub mod Tokens
+pub mod Scanned
+pub mod Rising
+pub mod Looking
+pub mod Promises
+pub mod laws
