@@ -1,10 +1,11 @@
--- The arguments of a procedure: the texts among them, and the names that these spell.
+-- The arguments of a procedure: the texts among them, and the names and words that these spell.
 use Rattle.std.specs.Prelude.{ℕ, zero, suc, pos, ◌≡◌, ◌==◌, ◌&&◌, Bool, true, false, List, [], ◌∷◌, length, map, Option, Some, None, codes, refl}
 use Rattle.std.specs.Bool.{if◌then◌else◌}
 use Rattle.std.specs.List.{list_all}
 use Rattle.std.specs.Option.{option_and_then}
 use Rattle.std.specs.Char.{to_ascii_lowercase}
 use Rattle.ct_base.specs.Names.{is_spelling}
+use Rattle.tx_settings.specs.Attributes.{is_spelt}
 use Rattle.st_parse.specs.declared.statements.Arg.{Arg}
 use Rattle.st_parse.specs.declared.statements.Arg.TheVariants.{Text, Number, Flag}
 use Rattle.st_parse.specs.declared.statements.Whole.TheVariants.{Fits}
@@ -38,6 +39,11 @@ is_text_argument (Flag b) = false
 abbrev pub are_texts : ℕ → List Arg → Bool
 are_texts count args = (length args == count) && list_all is_text_argument args
 
+-- whether there is a text, and it is this word, which is given in lower case, in any ASCII case
+abbrev pub spells_word : List ℕ → Option (List ℕ) → Bool
+spells_word word None = false
+spells_word word (Some text) = is_spelt word text
+
 -- computed examples
 the_second : argument_name 1 (Text (codes "g") ∷ Text (codes "Title") ∷ Number (Fits (pos 1)) ∷ []) ≡ Some (codes "title")
 the_second = refl
@@ -59,3 +65,6 @@ one_more = refl
 
 a_flag_among_them : are_texts 2 (Text (codes "a") ∷ Flag true ∷ []) ≡ false
 a_flag_among_them = refl
+
+in_any_case : spells_word (codes "basic_lexer") (Some (codes "Basic_Lexer")) ≡ true
+in_any_case = refl

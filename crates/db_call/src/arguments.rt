@@ -1,9 +1,10 @@
 //! The arguments of a procedure.
 
-ghost use Rattle.std.specs.Prelude.{◌≡◌, IfOk};
+ghost use Rattle.std.specs.Prelude.{◌≡◌, map, IfOk};
+ghost use Rattle.std.specs.Char.{to_ascii_lowercase};
 ghost use Rattle.std.specs.List.{list_all};
 ghost use Rattle.std.specs.Option.{option_map};
-ghost use Rattle.db_call.specs.Arguments.{are_texts as are_so_many_texts, is_text_argument, argument_name as name_there, spelt_name as name_spelt, argument_text as text_there, text_of as its_text};
+ghost use Rattle.db_call.specs.Arguments.{are_texts as are_so_many_texts, is_text_argument, argument_name as name_there, spells_word as is_this_word, spelt_name as name_spelt, argument_text as text_there, text_of as its_text};
 
 use ct_base::{Memory, Name, NameFault};
 use st_parse::Arg;
@@ -67,4 +68,15 @@ pub fn are_texts(args: &[Arg], count: usize) -> bool
     ensures { result ≡ are_so_many_texts count args.now }
 {
     args.len() == count && are_all_texts(args)
+}
+
+/// Whether there is a text, and it is this word, in any ASCII case.
+pub fn spells_word(text: Option<&str>, word: &str) -> bool
+    requires lower { map to_ascii_lowercase word.now ≡ word.now }
+    ensures { result ≡ is_this_word word.now (option_map (λ t. t.now) text.entry) }
+{
+    match text {
+        Some(text) => text.eq_ignore_ascii_case(word),
+        None => false,
+    }
 }

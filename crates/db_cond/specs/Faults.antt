@@ -20,6 +20,8 @@ pub data Refusal : Type 0 where
   NotOneWord : ℕ → Refusal
   UnknownSection : List ℕ → Refusal
   FieldInside : List ℕ → Refusal
+  UnknownThesaurus : List ℕ → Refusal
+  TooManyTerms : Refusal
   QueryTooLarge : Refusal
   OutOfRange : Refusal
   NoIndexOfKind : Refusal
@@ -56,6 +58,8 @@ refusal_line (NotInProfile place) = codes "E21: operator not in profile at " ++ 
 refusal_line (QueryNumber place) = codes "E22: number out of range at " ++ signed_decimal (pos place) ++ codes "\n"
 refusal_line (UnknownSection name) = codes "E23: unknown section " ++ printed_text name ++ codes "\n"
 refusal_line (FieldInside name) = codes "E24: field " ++ printed_text name ++ codes " inside WITHIN\n"
+refusal_line (UnknownThesaurus name) = codes "E25: unknown thesaurus " ++ printed_text name ++ codes "\n"
+refusal_line TooManyTerms = codes "E28: too many expanded terms\n"
 refusal_line QueryTooLarge = codes "E26: query too large\n"
 refusal_line (NotOneWord place) = codes "E29: not one word at " ++ signed_decimal (pos place) ++ codes "\n"
 refusal_line OutOfRange = codes "E22: number out of range\n"

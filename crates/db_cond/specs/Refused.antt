@@ -3,7 +3,7 @@ use Rattle.std.specs.Prelude.{◌≡◌, negsuc, codes, refl}
 use Rattle.std.specs.Fmt.{digits}
 use Rattle.db_cond.specs.declared.faults.Fault.{Fault}
 use Rattle.db_cond.specs.declared.faults.Fault.TheVariants as fault
-use Rattle.db_cond.specs.Faults.{Refusal, UnknownName, ExistsAlready, WrongValues, KeyExists, ValueTooLong, QuerySyntax, NotInProfile, QueryNumber, NotOneWord, UnknownSection, FieldInside, QueryTooLarge, OutOfRange, NoIndexOfKind, BadValue, LimitReached, refusal_line}
+use Rattle.db_cond.specs.Faults.{Refusal, UnknownName, ExistsAlready, WrongValues, KeyExists, ValueTooLong, QuerySyntax, NotInProfile, QueryNumber, NotOneWord, UnknownSection, FieldInside, UnknownThesaurus, TooManyTerms, QueryTooLarge, OutOfRange, NoIndexOfKind, BadValue, LimitReached, refusal_line}
 
 abbrev pub refusal_of : Fault → Refusal
 refusal_of (fault.UnknownName name) = UnknownName name.now
@@ -17,6 +17,8 @@ refusal_of (fault.QueryNumber place) = QueryNumber place
 refusal_of (fault.NotOneWord place) = NotOneWord place
 refusal_of (fault.UnknownSection name) = UnknownSection name.now
 refusal_of (fault.FieldInside name) = FieldInside name.now
+refusal_of (fault.UnknownThesaurus name) = UnknownThesaurus name.now
+refusal_of fault.TooManyTerms = TooManyTerms
 refusal_of fault.QueryTooLarge = QueryTooLarge
 refusal_of fault.OutOfRange = OutOfRange
 refusal_of fault.NoIndexOfKind = NoIndexOfKind

@@ -35,6 +35,10 @@ pub enum Fault<'a> {
     UnknownSection(&'a str),
     /// A query text has WITHIN this field inside another WITHIN.
     FieldInside(&'a str),
+    /// A query text names a thesaurus that isn't there.
+    UnknownThesaurus(&'a str),
+    /// A term of a query text expands to too many terms.
+    TooManyTerms,
     /// A query text is too long, or has too many words and signs or too many open parentheses.
     QueryTooLarge,
     /// A number of the statement is out of its range.
@@ -108,6 +112,8 @@ fn push_fault(alloc: Global, out: &mut Vec<u8>, fault: Fault<'_>) -> Result<(), 
         Fault::NotOneWord(place) => push_place(alloc, out, b"E29: not one word at ", place),
         Fault::UnknownSection(name) => push_named(out, b"E23: unknown section ", name, b"\n"),
         Fault::FieldInside(name) => { push_named(out, b"E24: field ", name, b" inside WITHIN\n") }
+        Fault::UnknownThesaurus(name) => push_named(out, b"E25: unknown thesaurus ", name, b"\n"),
+        Fault::TooManyTerms => push_fixed(out, b"E28: too many expanded terms\n"),
         Fault::QueryTooLarge => push_fixed(out, b"E26: query too large\n"),
         Fault::OutOfRange => push_fixed(out, b"E22: number out of range\n"),
         Fault::NoIndexOfKind => push_fixed(out, b"E27: no index of that kind\n"),

@@ -10,6 +10,7 @@ use Rattle.ct_keep.specs.Content.{Content}
 use Rattle.ct_keep.specs.declared.keepers.KeepFault.TheVariants as keep_fault
 use Rattle.ct_keep.specs.KeeperViews.{KeeperView, Counts, KeeperSays, SameButContent, Goes, AnswersCommit, IsLeft, IsDurable, AtMostOneCommit, NoCommit}
 use Rattle.ct_keep.specs.laws.Composing.{same_say_room, reads_none, reads_short, reads_only, reads_failed, passes_as}
+use Rattle.db_looks.specs.laws.Composing.{over_behind}
 use Rattle.db_state.specs.States.{StoreState, StandsForState}
 use Rattle.db_state.specs.Effects.{Effect, state_by}
 use Rattle.db_state.specs.laws.Giving.{keeps_itself}
@@ -21,6 +22,7 @@ use Rattle.db_engine.specs.declared.replies.Stop.TheVariants.{Disk as DiskHalt}
 use Rattle.db_console.specs.declared.responses.Response.{Response}
 use Rattle.db_console.specs.declared.saying.AnswerFault.{AnswerFault}
 use Rattle.db_console.specs.declared.saying.AnswerFault.TheVariants.{Say, Disk}
+use Rattle.db_console.specs.Looking.{PieceLooks}
 use Rattle.db_console.specs.Worlds.{World, LeavesState, IsMoment, IsPartOf, Answered, CommitsFor}
 use Rattle.db_console.specs.Views.{Shows, Spoke, SpokeInPart, Replied, Halted, LeavesEither, AnswersPiece, BrokeOff, BreaksOff}
 use Rattle.db_console.proofs.Lasting.{faults_kept, faults_said, faults_then, fails_by_disk, frame_kept, frame_said, frame_then}
@@ -193,32 +195,37 @@ commits_said piece old mid new commits says = record { once = ⊎_elim (λ none.
     none_said none = (calls ∙ none.0, syncs ∙ none.1)
 
 -- ---- the answer to a piece, from the response to it and what was said of that
-pub answers_said : (limit : ℕ) (piece : Piece) (bytes : List ℕ) (old mid new : KeeperView) → SameButContent old mid None → ((was : World) → Shows old was → Replied limit piece was old mid bytes) → CommitsFor piece old mid → Spoke false bytes mid new → AnswersPiece limit piece old new
-answers_said limit piece bytes old mid new kept r commits s = record {
+pub answers_said : (limit : ℕ) (piece : Piece) (bytes : List ℕ) (old mid new : KeeperView) → SameButContent old mid None → ((was : World) → Shows old was → Replied limit piece was old mid bytes) → CommitsFor piece old mid → PieceLooks limit piece old mid None
+    → Spoke false bytes mid new → AnswersPiece limit piece old new
+answers_said limit piece bytes old mid new kept r commits looks s = record {
   unheard = frame_then old mid new (frame_kept old mid None kept) (frame_said false mid new bytes s);
   faults = faults_then false false false old mid new (faults_kept old mid kept) (faults_said false mid new bytes s);
   ready = s.says.apart.ready kept.ready;
   commits = commits_said piece old mid new commits s.says;
+  looks = over_behind StandsForState _ old mid new None s.says.apart.counts s.says.apart.content looks;
   answers = λ was w. answered_by limit piece was old mid new bytes kept.ready w kept.beside (r was w) s.says;
 }
 
 pub breaks_off_saying : (limit : ℕ) (piece : Piece) (bytes : List ℕ) (fault : AnswerFault) (old mid new : KeeperView) → SameButContent old mid None → ((was : World) → Shows old was → Replied limit piece was old mid bytes)
-    → CommitsFor piece old mid → (new.ready → IsDurable new) → (fault ≡ Say) × SpokeInPart bytes mid new → BreaksOff limit piece fault old new
-breaks_off_saying limit piece bytes fault old mid new kept r commits settled s = rw s.0 (record {
+    → CommitsFor piece old mid → PieceLooks limit piece old mid None → (new.ready → IsDurable new) → (fault ≡ Say) × SpokeInPart bytes mid new → BreaksOff limit piece fault old new
+breaks_off_saying limit piece bytes fault old mid new kept r commits looks settled s = rw s.0 (record {
   unheard = frame_then old mid new (frame_kept old mid None kept) (frame_said true mid new s.1.part s.1.spoke);
   cause = record { faults = faults_then false true false old mid new (faults_kept old mid kept) (faults_said true mid new s.1.part s.1.spoke) };
   ready = s.1.spoke.says.apart.ready kept.ready;
   commits = commits_said piece old mid new commits s.1.spoke.says;
+  looks = over_behind StandsForState _ old mid new None s.1.spoke.says.apart.counts s.1.spoke.says.apart.content looks;
   breaks_off = λ was w. broke_off_saying limit piece was old mid new bytes kept.ready w kept.beside (r was w) (settled (s.1.spoke.says.apart.ready kept.ready)) s.1;
 })
 
 -- or where the disk failed
-pub breaks_off_halted : (limit : ℕ) (piece : Piece) (old new : KeeperView) → SameButContent old new (Some keep_fault.Disk) → ((was : World) → Shows old was → Halted limit piece was old new) → CommitsFor piece old new → BreaksOff limit piece Disk old new
-breaks_off_halted limit piece old new kept h commits = record {
+pub breaks_off_halted : (limit : ℕ) (piece : Piece) (old new : KeeperView) → SameButContent old new (Some keep_fault.Disk) → ((was : World) → Shows old was → Halted limit piece was old new) → CommitsFor piece old new
+    → PieceLooks limit piece old new (Some keep_fault.Disk) → BreaksOff limit piece Disk old new
+breaks_off_halted limit piece old new kept h commits looks = record {
   unheard = frame_kept old new (Some keep_fault.Disk) kept;
   cause = fails_by_disk old new kept;
   ready = tt;
   commits = commits;
+  looks = looks;
   breaks_off = λ was w. record {
     answer = Step;
     allowed = tt;

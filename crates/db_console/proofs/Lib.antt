@@ -1,6 +1,7 @@
 pub mod Texts
 pub mod Lasting
 pub mod SayingLaws
+pub mod LookLaws
 pub mod WorldLaws
 pub mod Asked
 pub mod Answering

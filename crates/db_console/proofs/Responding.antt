@@ -3,6 +3,7 @@ use Rattle.std.proofs.Common.{◌≡◌, ◌≤◌, ◌<◌, ℕ, List, [], Bool
 use Rattle.std.specs.Result.{IfOk, OnErr}
 use Rattle.std.specs.Str.{chars}
 use Rattle.ct_keep.specs.Content.{Content}
+use Rattle.ct_keep.specs.declared.keepers.KeepFault.{KeepFault}
 use Rattle.ct_keep.specs.declared.keepers.KeepFault.TheVariants.{Disk}
 use Rattle.ct_keep.specs.KeeperViews.{KeeperView, IsDurable}
 use Rattle.st_cut.specs.Seen.{ShowsText}
@@ -25,8 +26,10 @@ use Rattle.db_engine.specs.declared.replies.Stop.{Stop}
 use Rattle.db_engine.specs.declared.replies.Stop.TheVariants.{Disk as DiskStop}
 use Rattle.db_console.specs.declared.responses.Response.{Response}
 use Rattle.db_console.specs.declared.responses.Response.TheVariants.{Nothing}
-use Rattle.db_console.specs.Responses.{HasReply, Responds, RespondsToRead, response_bytes, response_to, response_to_unread}
-use Rattle.db_console.specs.Views.{Shows, Replied, Halted, RepliesToText, HaltsInText}
+use Rattle.db_console.specs.Responses.{HasReply, RespondsToRead, response_bytes, response_to, response_to_unread}
+use Rattle.db_console.specs.Looking.{ReadLooks}
+use Rattle.db_console.specs.Views.{Shows, Replied, Halted, RepliesToText, HaltsInText, LooksForText}
+use Rattle.db_console.proofs.LookLaws.{looks_text}
 use Rattle.db_console.proofs.Answering.{moves_not, moves_short, replied_by, halted_by}
 
 -- ---- what was read
@@ -175,6 +178,11 @@ module _ (given : Option (Bor (List ℕ))) (bytes : Bor (List ℕ)) (is : given 
 
     same_text : (ended : List ℕ) → bytes.now ≡ ended → text ≡ ended
     same_text ended e = found.1 ∙ e
+
+    pub looks_given : (fault : Option KeepFault) → ReadLooks (read (chars text)) old new fault → LooksForText given old new fault
+    looks_given fault looks = λ limit ended shown.
+        let p : (bytes.now ≡ ended) × (length ended ≤ limit) = shown_as limit ended shown in
+        looks_text limit ended text old new fault p.1 (of_ended ended p.0) (same_text ended p.0) looks
 
     pub replied_given : (result : Result Response Stop) → All result → IfOk result (λ response. RepliesToText given (response_bytes response) old new)
     replied_given (Err e) all = tt

@@ -24,12 +24,14 @@ use Rattle.pg_heap.specs.laws.Recovering.{load_passes, one_recovery}
 use Rattle.pg_keeper.specs.Loading.{HasNoStore}
 use Rattle.pg_keeper.specs.Paged.{told_content}
 use Rattle.db_engine.specs.Runs.{Turn, AllAllowed}
+use Rattle.db_looks.specs.laws.Composing.{over_before}
 use Rattle.db_state.specs.Shapes.{IsStoreEntry}
+use Rattle.db_state.specs.States.{StandsForState}
 use Rattle.db_console.specs.Worlds.{World, IsMoment}
 use Rattle.db_console.proofs.WorldLaws.{commits_before}
 use Rattle.db_console.specs.Asking.{AskedThen, Calls}
 use Rattle.db_console.specs.Views.{Shows, ToldEndOnce}
-use Rattle.db_console.specs.Table.{Because, Ends, Outcome, TellsPast, Completes, status_of}
+use Rattle.db_console.specs.Table.{Because, Ends, Outcome, TellsPast, Completes, status_of, fault_of_ending}
 use Rattle.db_console.specs.Stores.{SiteFaultsBy, ServedHeap, TellsOfStore, store_view, status_of_load}
 use Rattle.db_console.specs.declared.endings.Ending.{Ending}
 use Rattle.db_console.specs.declared.endings.Ending.TheVariants.{Done, HearFault, SayFault, NoMemory, DiskFault, PastLimit}
@@ -91,6 +93,7 @@ outcome_before limit most old mid new ending opens o = record {
         moments = passes_then old.time mid.time new.time _ (passes_more old.time mid.time _ _ (opens.time was.content w.holds) (λ stopped said p. moment_none limit was c.turns old stopped said w p)) c.moments;
         now = c.now;
         commits = commits_before c.turns old mid new opens.counts opens.syncs c.commits;
+        looks = over_before StandsForState _ old mid new (fault_of_ending ending) opens.counts opens.content c.looks;
         asked = subst (λ (b : Beside). Calls b.hearings new.beside.hearings (AskedThen b.left o.taken limit was c.turns)) opens.beside c.asked;
       };
 }

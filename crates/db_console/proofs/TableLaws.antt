@@ -5,22 +5,26 @@ use Rattle.ct_base.specs.laws.Moments.{passes_none, passes_nothing, passes_then}
 use Rattle.ct_base.specs.Told.{with_prefix, with_suffix, IsNothing}
 use Rattle.ct_base.specs.laws.Told.{with_prefix-nil, with_prefix_twice, with_suffix-nil, with_suffix_twice}
 use Rattle.ct_keep.specs.Content.{Content}
+use Rattle.ct_keep.specs.declared.keepers.KeepFault.{KeepFault}
 use Rattle.ct_keep.specs.KeeperViews.{KeeperView, PassesRoom, IsDurable, TakesAsBefore, counted}
 use Rattle.ct_keep.specs.laws.Composing.{takes_same, takes_then, same_limit, passes_behind, passes_as}
 use Rattle.ct_site.specs.FaultCounts.{rose_raised}
 use Rattle.st_cut.specs.Seen.{Seen, StandsOpen}
+use Rattle.db_looks.specs.laws.Composing.{over_behind}
 use Rattle.db_state.specs.States.{StoreState, StandsForState}
 use Rattle.db_engine.specs.Runs.{Turn, turn, pieces, state_after, transcript, state_after-append, transcript-append, AllAllowed}
 use Rattle.db_console.specs.declared.saying.AnswerFault.{AnswerFault}
 use Rattle.db_console.specs.declared.saying.AnswerFault.TheVariants.{Say, Disk}
 use Rattle.db_console.specs.declared.endings.Ending.{Ending}
 use Rattle.db_console.specs.declared.endings.Ending.TheVariants.{Done, HearFault, SayFault, NoMemory, DiskFault, PastLimit}
+use Rattle.db_console.specs.Looking.{TurnsLook}
 use Rattle.db_console.specs.Worlds.{World, LeavesState, IsMoment, Leads, Served, ServedTo, world_after}
 use Rattle.db_console.specs.Asking.{AskedThen, Calls}
 use Rattle.db_console.specs.Views.{Shows, EndsHere, DiskRose, ToldEnd, ToldEndOnce, FaultsAre, NoFault, Heard, FailsBy, Serves, Broke, Breaks, ServesEnd, UnlessByDisk}
-use Rattle.db_console.specs.Table.{status_of, ending_of, EndsRun, AreFirst, SaidInPart, FailedInLast, SaidAll, Ends, Course, Because, FaultsBy, Outcome, TellsPast, Completes, IsReadyAfter}
+use Rattle.db_console.specs.Table.{status_of, ending_of, fault_of_ending, EndsRun, AreFirst, SaidInPart, FailedInLast, SaidAll, Ends, Course, Because, FaultsBy, Outcome, TellsPast, Completes, IsReadyAfter}
 use Rattle.db_console.proofs.Asked.{calls_none, calls_more, calls_same, calls_asked, asked_now, asked_taken, asked_as, asked_turns}
 use Rattle.db_console.proofs.WorldLaws.{commits_behind, pieces-append, served_as, served_on, served_then, served_start, allowed_then, obey_then, moment_later}
+use Rattle.db_console.proofs.LookLaws.{looks_none}
 use Rattle.db_console.proofs.Lasting.{faults_none, faults_then, faults_heard}
 use Rattle.db_console.proofs.Answering.{either}
 use Rattle.db_console.proofs.ViewLaws.{broke_then}
@@ -40,6 +44,7 @@ served_heard limit store failed ended bytes heard was is old mid new cutter h s 
     leads = s.served.leads;
     moments = passes_then old.time mid.time new.time _ s.served.moments (passes_nothing mid.time new.time _ h.hears.time);
     commits = commits_behind s.served.turns old mid new h.hears.apart.counts h.hears.apart.disk_syncs s.served.commits;
+    looks = over_behind StandsForState _ old mid new None h.hears.apart.counts h.hears.apart.content s.served.looks;
   };
   stands = s.stands;
 }
@@ -154,9 +159,9 @@ moment_now limit was turns new content said rest prefix settled shows x w n =
     }
 
 -- all was said
-turns_all : (limit most store : ℕ) (whole : Bool) (taken script : List ℕ) (was now : World) (old new : KeeperView) (ending : Ending) → store ≡ old.fixed.limit → IsDurable new → Shows new now → (s : Served limit store whole [] script was now old new)
+turns_all : (limit most store : ℕ) (whole : Bool) (taken script : List ℕ) (was now : World) (old new : KeeperView) (ending : Ending) → store ≡ old.fixed.limit → fault_of_ending ending ≡ None → IsDurable new → Shows new now → (s : Served limit store whole [] script was now old new)
     → Calls old.beside.hearings new.beside.hearings (AskedThen old.beside.left taken limit was s.turns) → (SaidAll limit store whole script was s.turns new → Ends limit store most taken was s.turns new ending) → Course limit most taken was old new ending
-turns_all limit most store whole taken script was now old new ending is settled w s asked ends =
+turns_all limit most store whole taken script was now old new ending is quiet settled w s asked ends =
     let shows : Shows new (world_after limit was s.turns now.content) = shows_after limit store was now s.turns new s.leads w in
     record {
       turns = s.turns;
@@ -164,6 +169,7 @@ turns_all limit most store whole taken script was now old new ending is settled 
       ends = subst (λ (n : ℕ). Ends limit n most taken was s.turns new ending) is (ends (record { rest = s.rest; cut = s.cut; content = now.content; limited = s.leads.limited; shows = shows; settled = settled }));
       moments = s.moments;
       commits = s.commits;
+      looks = subst (λ (fault : Option KeepFault). TurnsLook limit s.turns old new fault) (sym quiet) s.looks;
       now = moment_now limit was s.turns new now.content (transcript limit was.state s.turns) [] (sym (append-nil (transcript limit was.state s.turns))) settled shows;
       asked = asked;
     }
@@ -182,6 +188,7 @@ out_memory limit most view ready settled = record {
     ends = (refl, w, settled);
     moments = passes_none view.time _;
     commits = (omega arith, omega arith);
+    looks = looks_none limit view;
     now = moment_now limit was [] view was.content [] [] refl settled (record { said = w.said ∙ sym (with_suffix-nil was.said); holds = w.holds; stands = w.stands });
     asked = calls_none view.beside.hearings _;
   };
@@ -204,7 +211,7 @@ out_fault limit most taken old mid now cutter settled before h k =
       ready = s.ready;
       course = λ was w.
           let x : SoFar limit s.heard [] was old now cutter = s.going was w in
-          turns_all limit most old.fixed.limit false s.heard s.heard was x.is old now HearFault refl (settled s.ready) x.shows x.served.served (asked_whole limit s.heard was x.served.served.turns old now x.asked) (λ e. e);
+          turns_all limit most old.fixed.limit false s.heard s.heard was x.is old now HearFault refl refl (settled s.ready) x.shows x.served.served (asked_whole limit s.heard was x.served.served.turns old now x.asked) (λ e. e);
     }
 
 -- ---- where an answer broke off
@@ -277,6 +284,7 @@ turns_broken_off Say limit most store whole taken was old new is n k asked =
       ends = subst (λ (m : ℕ). Ends limit m most taken was (k.turns ++ k.last ∷ []) new SayFault) is (whole, n, s);
       moments = k.moments;
       commits = k.commits;
+      looks = k.looks;
       now = moment_now limit was (k.turns ++ k.last ∷ []) new s.content s.said s.part.rest s.part.is k.by.settled s.shows;
       asked = asked;
     }
@@ -286,6 +294,7 @@ turns_broken_off Disk limit most store whole taken was old new is n k asked = re
   ends = subst (λ (m : ℕ). Ends limit m most taken was (k.turns ++ k.last ∷ []) new DiskFault) is (whole, n, failed_in_last limit store whole taken was old new k);
   moments = k.moments;
   commits = k.commits;
+  looks = k.looks;
   now = λ x w m. moment_later limit store was k.mid k.turns (k.last ∷ []) k.leads x w (either limit k.mid k.last x w (k.by.now x w m));
   asked = asked;
 }
@@ -338,7 +347,7 @@ out_done limit most taken old now new cutter settled s h n k = record {
       let y : (is : World) × Shows new is × Served limit now.fixed.limit true x.served.served.rest [] x.is is now new = k.serves limit x.served.served.rest x.served.stands x.is x.shows in
       let last : Served limit old.fixed.limit true x.served.served.rest [] x.is y.0 now new =
       subst (λ (store : ℕ). Served limit store true x.served.served.rest [] x.is y.0 now new) (same_limit s.fixed) y.2 in
-      turns_all limit most old.fixed.limit true s.heard s.heard was y.0 old new Done refl (settled k.ready) y.1
+      turns_all limit most old.fixed.limit true s.heard s.heard was y.0 old new Done refl refl (settled k.ready) y.1
       (served_as limit old.fixed.limit true [] (s.heard ++ []) s.heard was y.0 old new (append-nil s.heard) (served_on limit old.fixed.limit true [] s.heard [] was x.is y.0 old now new x.served.served last))
       (calls_same old.beside.hearings now.beside.hearings new.beside.hearings _ k.unheard.hearings
       (calls_more old.beside.hearings now.beside.hearings _ _ (asked_whole limit s.heard was x.served.served.turns old now x.asked)
@@ -369,7 +378,7 @@ out_past limit most taken byte old mid now cutter settled before k h =
       ready = s.ready;
       course = λ was w.
           let x : SoFar limit s.heard (byte ∷ []) was old now cutter = s.going was w in
-          turns_all limit most old.fixed.limit false (s.heard ++ byte ∷ []) s.heard was x.is old now PastLimit refl (settled s.ready) x.shows x.served.served x.asked (λ e. (s.heard, byte, refl, s.count ∙ h, e));
+          turns_all limit most old.fixed.limit false (s.heard ++ byte ∷ []) s.heard was x.is old now PastLimit refl refl (settled s.ready) x.shows x.served.served x.asked (λ e. (s.heard, byte, refl, s.count ∙ h, e));
     }
 
 -- ---- what follows of a run

@@ -9,11 +9,13 @@ use Rattle.st_cut.specs.Seen.{Seen, StandsOpen, ShowsText}
 use Rattle.st_cut.proofs.Cutting.{ended_text, no_text, some_cut}
 use Rattle.ct_keep.specs.laws.Composing.{same_limit}
 use Rattle.ct_keep.specs.KeeperViews.{KeeperView}
-use Rattle.db_engine.specs.Runs.{Piece, statement, rest_piece, turn_by, pieces}
+use Rattle.db_engine.specs.Runs.{Piece, statement, rest_piece, Turn, turn_by, pieces}
 use Rattle.db_console.specs.declared.saying.AnswerFault.{AnswerFault}
+use Rattle.db_console.specs.Looking.{PieceLooks, TurnsLook, fault_of_answer}
 use Rattle.db_console.specs.Worlds.{World, HasPieces, Served, ServedTo, Answered, CommitsFor}
 use Rattle.db_console.specs.Views.{Shows, AnswersPiece, AnswersText, BrokeOff, BreaksOff, BreaksOffText, Serves, Broke, Breaks, ServesEnd}
 use Rattle.db_console.proofs.WorldLaws.{leads_none, leads_then, moments_then, commits_then, commits_turn, pieces_then, pieces-append, served_then, served_open, served_statement, served_last, served_rest, newline_piece, ended_piece, rest_alone}
+use Rattle.db_console.proofs.LookLaws.{looks_then, looks_turn}
 use Rattle.db_console.proofs.Lasting.{faults_none, faults_then, frame_none, frame_then, fails_by_then}
 
 pub if_err_weaker : {T E : Type 0} (r : Result T E) (P Q : E → Type 0) → ((e : E) → P e → Q e) → IfErr r P → IfErr r Q
@@ -24,8 +26,8 @@ if_err_weaker (Err e) P Q f h = f e h
 
 -- in the first piece
 broke_first : (limit : ℕ) (whole : Bool) (fault : AnswerFault) (held bytes : List ℕ) (last : Piece) (later : List Piece) (rest : List ℕ) (was : World) (old new : KeeperView)
-    → HasPieces whole (held ++ bytes) (last ∷ later) rest → BrokeOff limit last fault was old new → CommitsFor last old new → Broke limit old.fixed.limit whole fault held bytes was old new
-broke_first limit whole fault held bytes last later rest was old new p a c = record {
+    → HasPieces whole (held ++ bytes) (last ∷ later) rest → BrokeOff limit last fault was old new → CommitsFor last old new → PieceLooks limit last old new (fault_of_answer fault) → Broke limit old.fixed.limit whole fault held bytes was old new
+broke_first limit whole fault held bytes last later rest was old new p a c l = record {
   turns = [];
   mid = was;
   leads = leads_none limit old.fixed.limit was;
@@ -36,6 +38,7 @@ broke_first limit whole fault held bytes last later rest was old new p a c = rec
   cut = p;
   moments = a.moments;
   commits = commits_turn (turn_by last a.answer) old new c;
+  looks = looks_turn limit (turn_by last a.answer) old new (fault_of_answer fault) l;
   by = a.by;
 }
 
@@ -54,6 +57,8 @@ broke_then limit store whole fault held a b was is old mid new s k = record {
       (pieces_then whole (held ++ a) b (pieces s.turns) (pieces k.turns ++ k.last.piece ∷ k.later) s.rest k.rest s.cut k.cut);
   moments = rw (append_assoc s.turns k.turns (k.last ∷ [])) (moments_then limit store was is s.turns (k.turns ++ k.last ∷ []) old mid new s.leads s.moments k.moments);
   commits = rw (append_assoc s.turns k.turns (k.last ∷ [])) (commits_then s.turns (k.turns ++ k.last ∷ []) old mid new s.commits k.commits);
+  looks = subst (λ (ts : List Turn). TurnsLook limit ts old new (fault_of_answer fault)) (sym (append_assoc s.turns k.turns (k.last ∷ [])))
+      (looks_then limit s.turns (k.turns ++ k.last ∷ []) old mid new (fault_of_answer fault) s.looks k.looks);
   by = k.by;
 }
 
@@ -73,6 +78,7 @@ broke_before limit store fault held a b was old new k =
           (pieces_then false (held ++ a) b (pieces k.turns ++ k.last.piece ∷ k.later) (map statement c.0) k.rest c.1 k.cut (record { statements = c.0; cut = c.2; are = refl }));
       moments = k.moments;
       commits = k.commits;
+      looks = k.looks;
       by = k.by;
     }
 
@@ -138,7 +144,7 @@ module _ (piece : List ℕ → Piece) (old new : KeeperView) (before : Seen) (te
 
   -- from its answer this follows of what stood open
   abbrev Gives : (ℕ → List ℕ → World → World → Type 0) → ℕ → List ℕ → List ℕ → Type 0
-  Gives follows limit held s = (was now : World) → Shows new now → Answered limit old.fixed.limit (piece s) was now old new → CommitsFor (piece s) old new → follows limit held was now
+  Gives follows limit held s = (was now : World) → Shows new now → Answered limit old.fixed.limit (piece s) was now old new → CommitsFor (piece s) old new → PieceLooks limit (piece s) old new None → follows limit held was now
 
   world_by : (follows : ℕ → List ℕ → World → World → Type 0) → AnswersText piece text old new → IsShown (Gives follows)
       → (limit : ℕ) (held : List ℕ) → StandsOpen limit before held → (was : World) → Shows old was → (now : World) × Shows new now × follows limit held was now
@@ -146,7 +152,7 @@ module _ (piece : List ℕ → Piece) (old new : KeeperView) (before : Seen) (te
       let t : (s : List ℕ) × ShowsText limit text s × Gives follows limit held s = is limit held h in
       let one : AnswersPiece limit (piece t.0) old new = answers limit t.0 t.1 in
       let a : (now : World) × Shows new now × Answered limit old.fixed.limit (piece t.0) was now old new = one.answers was w in
-      (a.0, a.1, t.2 was a.0 a.1 a.2 one.commits)
+      (a.0, a.1, t.2 was a.0 a.1 a.2 one.commits one.looks)
 
   serves_by : (bytes : List ℕ) (after : Seen) → AnswersText piece text old new → IsShown (Gives (λ limit held was now. ServedTo limit old.fixed.limit held bytes was now old new after)) → Serves bytes old new before after
   serves_by bytes after answers is =
@@ -172,7 +178,7 @@ module _ (piece : List ℕ → Piece) (old new : KeeperView) (before : Seen) (te
         breaks = λ limit held h was w.
             let t : (s : List ℕ) × ShowsText limit text s × ((later : List Piece) × (rest : List ℕ) × HasPieces whole (held ++ bytes) (piece s ∷ later) rest) = is limit held h in
             let one : BreaksOff limit (piece t.0) fault old new = answers limit t.0 t.1 in
-            broke_first limit whole fault held bytes (piece t.0) t.2.0 t.2.1 was old new t.2.2 (one.breaks_off was w) one.commits;
+            broke_first limit whole fault held bytes (piece t.0) t.2.0 t.2.1 was old new t.2.2 (one.breaks_off was w) one.commits one.looks;
       }
 
 -- ---- a statement that ends, and a rest
@@ -191,7 +197,7 @@ module _ (old new : KeeperView) (before : Seen) (text : Option (Bor (List ℕ)))
   pub serves_statement : (after : Seen) → AnswersText statement text old new → StandsOpen before.limit after [] → Serves (10 ∷ []) old new before after
   serves_statement after answers n = serves_by statement old new before text (10 ∷ []) after answers (λ limit held h.
       let t : (s : List ℕ) × ShowsText limit text s × (first_statement true held ≡ Some (s, [])) = ended limit held h in
-      (t.0, t.1, λ was now shows a c. served_statement limit old.fixed.limit held t.0 was now old new after h.opened t.2 a c (subst (λ (x : ℕ). StandsOpen x after []) h.limited n)))
+      (t.0, t.1, λ was now shows a c l. served_statement limit old.fixed.limit held t.0 was now old new after h.opened t.2 a c l (subst (λ (x : ℕ). StandsOpen x after []) h.limited n)))
 
   pub breaks_statement : (fault : AnswerFault) → BreaksOffText statement fault text old new → Breaks false fault (10 ∷ []) old new before
   breaks_statement fault answers = breaks_by statement old new before text false fault (10 ∷ []) answers (λ limit held h.
@@ -202,7 +208,7 @@ module _ (old new : KeeperView) (before : Seen) (text : Option (Bor (List ℕ)))
   finishes_statement result all = on_ok_weaker result
       (λ answers. ends_by statement old new before text answers (λ limit held h.
       let t : (s : List ℕ) × ShowsText limit text s × (first_statement true held ≡ Some (s, [])) = ended limit held h in
-      (t.0, t.1, λ was now shows a c. served_last limit old.fixed.limit held t.0 was now old new t.2 shows.stands a c)))
+      (t.0, t.1, λ was now shows a c l. served_last limit old.fixed.limit held t.0 was now old new t.2 shows.stands a c l)))
       all
 
   pub breaks_last : {T : Type 0} (result : Result T AnswerFault) → IfErr result (λ fault. BreaksOffText statement fault text old new) → IfErr result (λ fault. Breaks true fault [] old new before)
@@ -216,7 +222,7 @@ module _ (old new : KeeperView) (before : Seen) (text : Option (Bor (List ℕ)))
   pub finishes_rest : {T : Type 0} (result : Result T AnswerFault) → OnOk result (AnswersText rest_piece text old new) → OnOk result (ServesEnd old new before)
   finishes_rest result all = on_ok_weaker result
       (λ answers. ends_by rest_piece old new before text answers
-      (λ limit held h. (held, show limit held h, λ was now shows a c. served_rest limit old.fixed.limit held was now old new (no_text limit before held h none) a c)))
+      (λ limit held h. (held, show limit held h, λ was now shows a c l. served_rest limit old.fixed.limit held was now old new (no_text limit before held h none) a c l)))
       all
 
   pub breaks_rest : {T : Type 0} (result : Result T AnswerFault) → IfErr result (λ fault. BreaksOffText rest_piece fault text old new) → IfErr result (λ fault. Breaks true fault [] old new before)

@@ -18,7 +18,9 @@ use Rattle.db_state.specs.laws.Giving.{keeps_itself}
 use Rattle.db_state.specs.Effects.{state_by, reply_by}
 use Rattle.db_engine.specs.Steps.{rest_step}
 use Rattle.db_engine.specs.Runs.{Piece, statement, rest_piece, Step, Turn, turn_by, pieces, state_after, transcript, state_after-append, transcript-append, allowed-append, obey-append, AllAllowed, AllObeyLimit, Ran}
+use Rattle.db_console.specs.Looking.{PieceLooks}
 use Rattle.db_console.specs.Worlds.{HasPieces, World, LeavesState, IsMoment, Leads, Served, ServedTo, Answered, CommitsWithin, CommitsFor, statement_count}
+use Rattle.db_console.proofs.LookLaws.{looks_none, looks_then, looks_turn, looks_last}
 
 -- ---- turns
 
@@ -136,6 +138,7 @@ served_on limit store whole held a b old mid new t u v s k = record {
   leads = leads_then limit store old mid new s.turns k.turns s.leads k.leads;
   moments = moments_then limit store old mid s.turns k.turns t u v s.leads s.moments k.moments;
   commits = commits_then s.turns k.turns t u v s.commits k.commits;
+  looks = looks_then limit s.turns k.turns t u v None s.looks k.looks;
 }
 
 unfoldable pub served_then : (limit store : ℕ) (held a b : List ℕ) (old mid new : World) (t u v : KeeperView) (cutter : Seen)
@@ -155,6 +158,7 @@ served_as limit store whole held a b old new t u is s = record {
   leads = s.leads;
   moments = s.moments;
   commits = s.commits;
+  looks = s.looks;
 }
 
 -- ---- one piece
@@ -170,6 +174,7 @@ served_open limit store held bytes world k cutter h = record {
     leads = leads_none limit store world;
     moments = passes_none k.time _;
     commits = (omega arith, omega arith);
+    looks = looks_none limit k;
   };
   stands = h;
 }
@@ -182,8 +187,8 @@ pub newline_piece : (held text : List ℕ) → first_statement false held ≡ No
 newline_piece held text h e = record { statements = text ∷ []; cut = ([], open_newline held h ∙ e, (refl, refl)); are = refl }
 
 pub served_statement : (limit store : ℕ) (held text : List ℕ) (old new : World) (t u : KeeperView) (cutter : Seen) → first_statement false held ≡ None → first_statement true held ≡ Some (text, [])
-    → Answered limit store (statement text) old new t u → CommitsFor (statement text) t u → StandsOpen limit cutter [] → ServedTo limit store held (10 ∷ []) old new t u cutter
-served_statement limit store held text old new t u cutter h e a c n = record {
+    → Answered limit store (statement text) old new t u → CommitsFor (statement text) t u → PieceLooks limit (statement text) t u None → StandsOpen limit cutter [] → ServedTo limit store held (10 ∷ []) old new t u cutter
+served_statement limit store held text old new t u cutter h e a c l n = record {
   served = record {
     turns = turn_by (statement text) a.answer ∷ [];
     rest = [];
@@ -191,6 +196,7 @@ served_statement limit store held text old new t u cutter h e a c n = record {
     leads = a.leads;
     moments = a.moments;
     commits = commits_turn (turn_by (statement text) a.answer) t u c;
+    looks = looks_turn limit (turn_by (statement text) a.answer) t u None l;
   };
   stands = n;
 }
@@ -225,8 +231,8 @@ empty_rest limit store world stands = record {
 }
 
 pub served_last : (limit store : ℕ) (held text : List ℕ) (old new : World) (t u : KeeperView) → first_statement true held ≡ Some (text, []) → StandsForState new.content new.state
-    → Answered limit store (statement text) old new t u → CommitsFor (statement text) t u → Served limit store true held [] old new t u
-served_last limit store held text old new t u e stands a c = record {
+    → Answered limit store (statement text) old new t u → CommitsFor (statement text) t u → PieceLooks limit (statement text) t u None → Served limit store true held [] old new t u
+served_last limit store held text old new t u e stands a c l = record {
   turns = turn_by (statement text) a.answer ∷ turn_by (rest_piece []) Step ∷ [];
   rest = [];
   cut = ended_piece held text e;
@@ -235,15 +241,17 @@ served_last limit store held text old new t u e stands a c = record {
   commits =
       commits_then (turn_by (statement text) a.answer ∷ []) (turn_by (rest_piece []) Step ∷ []) t u u
       (commits_turn (turn_by (statement text) a.answer) t u c) (omega arith, omega arith);
+  looks = looks_last limit (turn_by (statement text) a.answer) t u l;
 }
 
 pub served_rest : (limit store : ℕ) (held : List ℕ) (old new : World) (t u : KeeperView) → first_statement true held ≡ None
-    → Answered limit store (rest_piece held) old new t u → CommitsFor (rest_piece held) t u → Served limit store true held [] old new t u
-served_rest limit store held old new t u e a c = record {
+    → Answered limit store (rest_piece held) old new t u → CommitsFor (rest_piece held) t u → PieceLooks limit (rest_piece held) t u None → Served limit store true held [] old new t u
+served_rest limit store held old new t u e a c l = record {
   turns = turn_by (rest_piece held) a.answer ∷ [];
   rest = held;
   cut = rest_alone held e;
   leads = a.leads;
   moments = a.moments;
   commits = commits_turn (turn_by (rest_piece held) a.answer) t u c;
+  looks = looks_turn limit (turn_by (rest_piece held) a.answer) t u None l;
 }

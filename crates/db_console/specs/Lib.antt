@@ -1,4 +1,5 @@
 pub mod Limits
+pub mod Looking
 pub mod Worlds
 pub mod Asking
 pub mod Responses

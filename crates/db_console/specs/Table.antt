@@ -8,12 +8,15 @@ use Rattle.ct_base.specs.Told.{with_prefix, with_suffix}
 use Rattle.ct_base.specs.Moments.{Passes}
 use Rattle.ct_site.specs.Disks.{Beside}
 use Rattle.ct_keep.specs.Content.{Content}
+use Rattle.ct_keep.specs.declared.keepers.KeepFault.{KeepFault}
+use Rattle.ct_keep.specs.declared.keepers.KeepFault.TheVariants as keep_fault
 use Rattle.ct_keep.specs.KeeperViews.{KeeperView, PassesRoom, IsDurable}
 use Rattle.ct_keep.specs.InMemory.{in_memory, settled_in_memory}
 use Rattle.ct_keep.specs.KeeperStates.{KeeperState, no_counts, mem_view}
 use Rattle.st_cut.specs.Seen.{Seen}
 use Rattle.db_state.specs.laws.Empty.{empty_stands}
 use Rattle.db_engine.specs.Runs.{Piece, Turn, pieces, state_after, transcript, AllAllowed, AllObeyLimit, statement, rest_piece, Step, turn_by}
+use Rattle.db_console.specs.Looking.{TurnsLook}
 use Rattle.db_console.specs.Worlds.{World, HasPieces, LeavesState, IsMoment, IsPartOf, IsPrefixOf, CommitsWithin, world_after, world}
 use Rattle.db_console.specs.Asking.{AskedThen, Calls}
 use Rattle.db_console.specs.Views.{Shows, EndsHere, ToldEnd, ToldEndOnce, HearRose, SayRose, FaultsAre, Breaks, ServesEnd}
@@ -33,6 +36,11 @@ status_of PastLimit = 8
 abbrev pub ending_of : AnswerFault → Ending
 ending_of Say = SayFault
 ending_of Disk = DiskFault
+
+-- how the keeper failed in a run that ended so
+abbrev pub fault_of_ending : Ending → Option KeepFault
+fault_of_ending DiskFault = Some keep_fault.Disk
+fault_of_ending ending = None
 
 -- The end of the script was served, and the run ends so.
 abbrev pub EndsRun : Ending → KeeperView → KeeperView → Seen → Type 0
@@ -104,7 +112,8 @@ Ends limit store most taken was turns new DiskFault = (whole : Bool) × (whole �
 Ends limit store most taken was turns new PastLimit = (first : List ℕ) × (more : ℕ) × (taken ≡ first ++ more ∷ []) × (length first ≡ most) × SaidAll limit store false first was turns new
 
 -- The answers of a run. At each moment since its start, and now, a crash leaves the state after some of the first turns,
--- and what was said by then is a prefix of what these say. There were at most as many commits as statements among the turns.
+-- and what was said by then is a prefix of what these say. There were at most as many commits as statements among the turns. These looked up
+-- no more than they may at the content at entry; where something is said of all of them, that content stays, unless the disk failed.
 pub record Course (limit most : ℕ) (taken : List ℕ) (was : World) (old new : KeeperView) (ending : Ending) : Type 0 where
   pub turns : List Turn
   pub allowed : AllAllowed limit old.fixed.limit was.state turns
@@ -112,6 +121,7 @@ pub record Course (limit most : ℕ) (taken : List ℕ) (was : World) (old new :
   pub moments : Passes old.time new.time (IsMoment limit was turns)
   pub now : (left : Option Content) (said : List ℕ) → new.now left said → IsMoment limit was turns left said
   pub commits : CommitsWithin turns old new
+  pub looks : TurnsLook limit turns old new (fault_of_ending ending)
   -- what was taken so far is answered before `hear` is called again
   pub asked : Calls old.beside.hearings new.beside.hearings (AskedThen old.beside.left taken limit was turns)
 

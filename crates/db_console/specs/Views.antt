@@ -1,15 +1,17 @@
 -- What the console does to what is known of a keeper.
-use Rattle.std.specs.Prelude.{ℕ, ◌≡◌, ◌==◌, ◌⊎◌, Bool, true, false, List, [], ◌∷◌, ◌++◌, Option, Some, Result, Ok, Err, refl}
+use Rattle.std.specs.Prelude.{ℕ, ◌≡◌, ◌==◌, ◌⊎◌, Bool, true, false, List, [], ◌∷◌, ◌++◌, Option, Some, None, Result, Ok, Err, refl}
 use denote.Ref.{Bor}
 use Rattle.ct_base.specs.Causes.{Rose}
 use Rattle.ct_base.specs.Told.{with_suffix, IsNothing, IsSaid}
 use Rattle.ct_base.specs.Moments.{Passes}
 use Rattle.ct_site.specs.Disks.{Beside}
 use Rattle.ct_keep.specs.Content.{Content}
+use Rattle.ct_keep.specs.declared.keepers.KeepFault.{KeepFault}
 use Rattle.ct_keep.specs.KeeperViews.{KeeperView, TakesAsBefore, KeeperHears, KeeperSays, PassesRoom, IsDurable, counted}
 use Rattle.st_cut.specs.Seen.{Seen, StandsOpen, ShowsText}
 use Rattle.db_state.specs.States.{StandsForState}
 use Rattle.db_engine.specs.Runs.{Piece, statement, Answer, Step, Turn, turn_by, turn, effect_by, pieces, IsAllowed, ObeysLimit}
+use Rattle.db_console.specs.Looking.{PieceLooks, TurnsLook, fault_of_answer}
 use Rattle.db_console.specs.Worlds.{World, HasPieces, LeavesState, IsMoment, Leads, Served, ServedTo, Answered, IsPartOf, CommitsWithin, CommitsFor}
 use Rattle.db_console.specs.declared.saying.AnswerFault.{AnswerFault}
 use Rattle.db_console.specs.declared.saying.AnswerFault.TheVariants.{Say, Disk}
@@ -108,12 +110,13 @@ pub record Halted (limit : ℕ) (piece : Piece) (was : World) (old new : KeeperV
   pub moments : Passes old.time new.time (IsMoment limit was (turn_by piece Step ∷ []))
   pub now : (left : Option Content) (said : List ℕ) → new.now left said → LeavesEither limit was (turn_by piece Step) left said
 
--- A piece was answered, and the reply was said.
+-- A piece was answered, and the reply was said. No more was looked up than the piece may.
 pub record AnswersPiece (limit : ℕ) (piece : Piece) (old new : KeeperView) : Type 0 where
   pub unheard : HearsNothing old new
   pub faults : NoFault old new
   pub ready : new.ready
   pub commits : CommitsFor piece old new
+  pub looks : PieceLooks limit piece old new None
   pub answers : (was : World) → Shows old was → (now : World) × Shows new now × Answered limit old.fixed.limit piece was now old new
 
 -- what holds unless the disk failed
@@ -167,6 +170,7 @@ pub record BreaksOff (limit : ℕ) (piece : Piece) (fault : AnswerFault) (old ne
   pub cause : FailsBy fault old new
   pub ready : UnlessByDisk fault new.ready
   pub commits : CommitsFor piece old new
+  pub looks : PieceLooks limit piece old new (fault_of_answer fault)
   pub breaks_off : (was : World) → Shows old was → BrokeOff limit piece fault was old new
 
 -- ---- the piece whose text is given, where that isn't too long
@@ -187,6 +191,10 @@ RepliesToText given reply old new = OverTexts given (λ limit text. OverWorlds o
 abbrev pub HaltsInText : Option (Bor (List ℕ)) → KeeperView → KeeperView → Type 0
 HaltsInText given old new = OverTexts given (λ limit text. OverWorlds old (λ was. Halted limit (statement text) was old new))
 
+-- However the statement was answered, it looked up no more than it may.
+abbrev pub LooksForText : Option (Bor (List ℕ)) → KeeperView → KeeperView → Option KeepFault → Type 0
+LooksForText given old new fault = OverTexts given (λ limit text. PieceLooks limit (statement text) old new fault)
+
 -- The piece, a statement or a rest, was answered, and the reply was said.
 abbrev pub AnswersText : (List ℕ → Piece) → Option (Bor (List ℕ)) → KeeperView → KeeperView → Type 0
 AnswersText piece given old new = OverTexts given (λ limit text. AnswersPiece limit (piece text) old new)
@@ -206,7 +214,7 @@ pub record Serves (bytes : List ℕ) (old new : KeeperView) (before after : Seen
 
 -- Where `held` stood open, serving `bytes` answered some pieces of them, and then the answer to the next one broke off.
 -- Each moment that came between is one of these turns, and there were at most as many commits as statements among them, and at most four
--- syncs for each.
+-- syncs for each. The turns looked up no more than they may.
 pub record Broke (limit store : ℕ) (whole : Bool) (fault : AnswerFault) (held bytes : List ℕ) (was : World) (old new : KeeperView) : Type 0 where
   pub turns : List Turn
   pub mid : World
@@ -218,6 +226,7 @@ pub record Broke (limit store : ℕ) (whole : Bool) (fault : AnswerFault) (held 
   pub cut : HasPieces whole (held ++ bytes) (pieces turns ++ last.piece ∷ later) rest
   pub moments : Passes old.time new.time (IsMoment limit was (turns ++ last ∷ []))
   pub commits : CommitsWithin (turns ++ last ∷ []) old new
+  pub looks : TurnsLook limit (turns ++ last ∷ []) old new (fault_of_answer fault)
   pub by : LeavesTurn fault limit store mid last new
 
 -- Serving bytes broke off for this fault.

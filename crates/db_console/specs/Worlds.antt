@@ -1,5 +1,5 @@
 -- What serving some bytes of a script does to the world, and what a crash in between leaves of it.
-use Rattle.std.specs.Prelude.{ℕ, ◌≡◌, ◌≤◌, ◌<◌, ◌+◌, ◌*◌, Bool, true, false, List, [], ◌∷◌, ◌++◌, length, map, count_by, codes, Option, Some, refl}
+use Rattle.std.specs.Prelude.{ℕ, ◌≡◌, ◌≤◌, ◌<◌, ◌+◌, ◌*◌, Bool, true, false, List, [], ◌∷◌, ◌++◌, length, map, count_by, codes, Option, Some, None, refl}
 use Rattle.std.specs.FinMap.{empty}
 use Rattle.std.proofs.Common.{inr, arith}
 use Rattle.std.specs.Str.{chars, is_utf8}
@@ -15,9 +15,11 @@ use Rattle.ct_keep.specs.Content.{Content}
 use Rattle.ct_keep.specs.KeeperViews.{KeeperView, AtMostOneCommit, NoCommit}
 use Rattle.st_cut.specs.Cut.{Cuts}
 use Rattle.st_cut.specs.Seen.{Seen, StandsOpen}
+use Rattle.db_looks.specs.laws.Composing.{over_still}
 use Rattle.db_state.specs.States.{StoreState, empty_state, StandsForState}
 use Rattle.db_state.specs.laws.Empty.{empty_stands}
 use Rattle.db_engine.specs.Runs.{Piece, statement, rest_piece, Answer, Step, Turn, turn_by, pieces, state_after, transcript, AllAllowed, AllObeyLimit, Ran}
+use Rattle.db_console.specs.Looking.{TurnsLook}
 
 -- all pieces of these statements, and of the rest where the script has ended
 abbrev pub pieces_of : Bool → List (List ℕ) → List ℕ → List Piece
@@ -79,7 +81,7 @@ pub record Leads (limit store : ℕ) (old : World) (turns : List Turn) (new : Wo
 
 -- Where `held` stood open, serving `bytes` answered each statement that ends in them, and said each reply.
 -- Where they end the script it answered the rest too. Each moment that came between is one of these turns, and there were
--- at most as many commits as statements among them, and at most four syncs for each.
+-- at most as many commits as statements among them, and at most four syncs for each. The turns looked up no more than they may.
 pub record Served (limit store : ℕ) (whole : Bool) (held bytes : List ℕ) (old new : World) (before after : KeeperView) : Type 0 where
   pub turns : List Turn
   pub rest : List ℕ
@@ -87,6 +89,7 @@ pub record Served (limit store : ℕ) (whole : Bool) (held bytes : List ℕ) (ol
   pub leads : Leads limit store old turns new
   pub moments : Passes before.time after.time (IsMoment limit old turns)
   pub commits : CommitsWithin turns before after
+  pub looks : TurnsLook limit turns before after None
 
 -- The same, as far as the script has come; the cutter then holds what stands open.
 pub record ServedTo (limit store : ℕ) (held bytes : List ℕ) (old new : World) (before after : KeeperView) (cutter : Seen) : Type 0 where
@@ -129,6 +132,7 @@ half_a_word k = record {
   };
   moments = passes_none k.time _;
   commits = (omega arith, omega arith);
+  looks = over_still StandsForState _ k;
 }
 
 -- a statement that a newline ends, while the next one stands open
@@ -141,6 +145,7 @@ some_text k = record {
   leads = record { said = codes "some|0|4\ntext|5|4\n"; run = record { state = refl; says = refl }; told = refl; allowed = (tt, tt); limited = (empty, (empty_stands, inr (omega arith)), refl) };
   moments = passes_none k.time _;
   commits = (omega arith, omega arith);
+  looks = over_still StandsForState _ k;
 }
 
 -- the rest of a script isn't a statement, so two turns may have called one commit

@@ -9,7 +9,8 @@ ghost use Rattle.db_state.specs.States.{StoreState};
 ghost use Rattle.db_state.specs.Effects.{reply_by};
 ghost use Rattle.db_engine.specs.Steps.{rest_step};
 ghost use Rattle.db_engine.specs.Executing.{fault_of_stop};
-ghost use Rattle.db_console.specs.Views.{HaltsInText, OverTexts, RepliesToText};
+ghost use Rattle.db_console.specs.Looking.{ReadLooks};
+ghost use Rattle.db_console.specs.Views.{HaltsInText, LooksForText, OverTexts, RepliesToText};
 ghost use Rattle.db_console.specs.Responses.{response_bytes, response_to, response_to_unread, IsTextOf, RespondsToRead};
 
 use ct_base::Bytes;
@@ -94,6 +95,7 @@ fn respond_to_statement<R: Threads + Sync, K: Keeper>(
     ensures kept { SameButContent (K.view keeper.old) (K.view keeper.new) (fault_of_stop result) }
     ensures once { AtMostOneCommit (K.view keeper.old) (K.view keeper.new) }
     ensures responds { RespondsToRead (Found statement.now) (K.view keeper.old) (K.view keeper.new) result }
+    ensures looks { ReadLooks (Found statement.now) (K.view keeper.old) (K.view keeper.new) (fault_of_stop result) }
 {
     match execute(rt, alloc, degree, keeper, statement) {
         Ok(reply) => Ok(response_to(reply)),
@@ -113,6 +115,7 @@ fn respond_to_text<R: Threads + Sync, K: Keeper>(
     ensures kept { SameButContent (K.view keeper.old) (K.view keeper.new) (fault_of_stop result) }
     ensures once { AtMostOneCommit (K.view keeper.old) (K.view keeper.new) }
     ensures responds { RespondsToRead (read (chars text.now)) (K.view keeper.old) (K.view keeper.new) result }
+    ensures looks { ReadLooks (read (chars text.now)) (K.view keeper.old) (K.view keeper.new) (fault_of_stop result) }
 {
     match parse(alloc, text) {
         Ok(Some(statement)) => respond_to_statement(rt, alloc, degree, keeper, &statement),
@@ -134,6 +137,7 @@ pub fn respond<R: Threads + Sync, K: Keeper>(
     ensures once { AtMostOneCommit (K.view keeper.old) (K.view keeper.new) }
     ensures replied { IfOk result (λ response. RepliesToText text.entry (response_bytes response) (K.view keeper.old) (K.view keeper.new)) }
     ensures halted { OnErr result (HaltsInText text.entry (K.view keeper.old) (K.view keeper.new)) }
+    ensures looks { LooksForText text.entry (K.view keeper.old) (K.view keeper.new) (fault_of_stop result) }
 {
     let Some(bytes) = text else {
         return Ok(Response::TooLong);

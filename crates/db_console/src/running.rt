@@ -45,7 +45,7 @@ pub fn serve<R: Threads + Sync, K: Keeper>(
 ) -> u8
     requires { AcceptsStatements (K.view keeper.old) }
 
-    // the table of statuses, with the moments of a crash
+    // the table of statuses, with the moments of a crash, and with a bound on what searches look up
     ensures table { ServedWith statement_limit most (K.view keeper.old) (K.view keeper.new) result }
 
     // causes

@@ -66,6 +66,7 @@ use Rattle.db_state.specs.Columns.{column_place}
 use Rattle.db_state.specs.Effects.{Effect, Does, refuse, with_found, state_by}
 use Rattle.db_state.specs.Lines.{call_done}
 use Rattle.tx_prefs.specs.Preferences.{no_preferences}
+use Rattle.th_store.specs.Thesauri.{no_thesauri}
 use Rattle.db_state.specs.States.{StoreState, StandsForState, empty_state, is_view, index_limit, indexes_on}
 use Rattle.db_state.specs.Room.{room, its_room}
 use Rattle.db_state.specs.laws.EachValue.{entries-each_value, entries-from_rising}
@@ -138,10 +139,10 @@ abbrev indexes_with : ℕ → List (ℤ × Its) → Names Index
 indexes_with given marks = indexes_of (index_with given marks)
 
 abbrev state_with : List (ℤ × List Value) → ℕ → List (ℤ × Its) → StoreState
-state_with rows given marks = record { tables = tables_with rows; indexes = indexes_with given marks; preferences = no_preferences }
+state_with rows given marks = record { tables = tables_with rows; indexes = indexes_with given marks; preferences = no_preferences; thesauri = no_thesauri }
 
 abbrev without_index : StoreState
-without_index = record { tables = tables_with []; indexes = empty; preferences = no_preferences }
+without_index = record { tables = tables_with []; indexes = empty; preferences = no_preferences; thesauri = no_thesauri }
 
 table_there : (rows : List (ℤ × List Value)) → get (tables_with rows) docs ≡ Some (table_with rows)
 table_there rows = get-from_sorted (slice_cmp nat_cmp) ((docs, table_with rows) ∷ []) docs tt
@@ -184,7 +185,7 @@ abbrev first : Content
 first = after (spell first_changes) empty
 
 first_stands : StandsForState first without_index
-first_stands = subst (λ (ts : Tables). StandsForState first (record { tables = ts; indexes = empty; preferences = no_preferences })) tables_created (created_table_stands empty empty_state docs shown_columns empty_stands docs_name columns_named table_free)
+first_stands = subst (λ (ts : Tables). StandsForState first (record { tables = ts; indexes = empty; preferences = no_preferences; thesauri = no_thesauri })) tables_created (created_table_stands empty empty_state docs shown_columns empty_stands docs_name columns_named table_free)
 
 -- ---- CREATE INDEX di ON docs(body)
 
@@ -245,7 +246,7 @@ the_defaults_are = record { lexer = refl; can_be = defaults_can_be_set; stop = r
 second_stands : StandsForState second (state_with [] 0 [])
 second_stands =
     subst (λ (ws : List KeyChange). StandsForState (after (spell ws) first) (state_with [] 0 [])) second_are
-    (subst (λ (xs : Names Index). StandsForState (after (spell (kinds.create_changes all_rows tt (table_at (tables_with []) docs) di (target docs 1) default_prefs)) first) (record { tables = tables_with []; indexes = xs; preferences = no_preferences })) indexes_created
+    (subst (λ (xs : Names Index). StandsForState (after (spell (kinds.create_changes all_rows tt (table_at (tables_with []) docs) di (target docs 1) default_prefs)) first) (record { tables = tables_with []; indexes = xs; preferences = no_preferences; thesauri = no_thesauri })) indexes_created
     (new_index_stands first without_index di docs (table_with []) 1 default_prefs first_stands di_name the_defaults_are index_free))
 
 -- ---- INSERT INTO docs
@@ -296,8 +297,8 @@ module _ (rows : List (ℤ × List Value)) (given : ℕ) (marks : List (ℤ × I
       let m = state_with rows given marks in
       let count : length (entries (table_with rows).rows) ≡ length rows = ap length (entries-from_sorted int_cmp rows rows_rise) in
       subst (λ (heads : List (List ℕ × IndexHead)). StandsForState (after (spell (new_row_changes (at c) docs r vs heads)) c) (state_with (put_pair int_cmp r vs rows) given (put_pair int_cmp r Pending marks))) (heads_are given marks)
-      (subst (λ (ts : Tables). StandsForState (after (spell (new_row_changes (at c) docs r vs (heads_on m.indexes docs))) c) (record { tables = ts; indexes = indexes_with given (put_pair int_cmp r Pending marks); preferences = no_preferences })) tables_with_row
-      (subst (λ (xs : Names Index). StandsForState (after (spell (new_row_changes (at c) docs r vs (heads_on m.indexes docs))) c) (record { tables = with_row (tables_with rows) docs r vs; indexes = xs; preferences = no_preferences })) indexes_with_note
+      (subst (λ (ts : Tables). StandsForState (after (spell (new_row_changes (at c) docs r vs (heads_on m.indexes docs))) c) (record { tables = ts; indexes = indexes_with given (put_pair int_cmp r Pending marks); preferences = no_preferences; thesauri = no_thesauri })) tables_with_row
+      (subst (λ (xs : Names Index). StandsForState (after (spell (new_row_changes (at c) docs r vs (heads_on m.indexes docs))) c) (record { tables = with_row (tables_with rows) docs r vs; indexes = xs; preferences = no_preferences; thesauri = no_thesauri })) indexes_with_note
       (new_row_stands c m docs (table_with rows) r vs stands (table_there rows) (get-from_sorted int_cmp rows r rows_rise ∙ free) row fit (omega (arith, count, few)))))
 
 abbrev row_one : List Value
@@ -420,7 +421,7 @@ fourth = after (spell fourth_changes) third
 fourth_stands : StandsForState fourth (state_with one_row 1 ((pos 1, Settled tt) ∷ []))
 fourth_stands =
     subst (λ (ws : List KeyChange). StandsForState (after (spell ws) third) (state_with one_row 1 ((pos 1, Settled tt) ∷ []))) fourth_are
-    (subst (λ (xs : Names Index). StandsForState (after (spell (kinds.sync_changes tt (table_at (tables_with one_row) docs) di waiting)) third) (record { tables = tables_with one_row; indexes = xs; preferences = no_preferences })) indexes_synced
+    (subst (λ (xs : Names Index). StandsForState (after (spell (kinds.sync_changes tt (table_at (tables_with one_row) docs) di waiting)) third) (record { tables = tables_with one_row; indexes = xs; preferences = no_preferences; thesauri = no_thesauri })) indexes_synced
     (synced_stands third (state_with one_row 0 ((pos 1, Pending) ∷ [])) di waiting third_stands (index_there 0 ((pos 1, Pending) ∷ [])) few_enough))
 
 -- ---- INSERT INTO docs once more
@@ -448,7 +449,7 @@ table_is_created =
     let done = Does (with_new_table empty_state docs shown_columns) table_created in
     ap (λ (o : Option Table). check_table (is_some o) (nat_le table_limit (length (entries (empty {X = Table} {R = slice_cmp nat_cmp})))) docs shown_columns done) (get-empty (slice_cmp nat_cmp) docs)
     ∙ ap (λ (es : List (List ℕ × Table)). check_table false (nat_le table_limit (length es)) docs shown_columns done) (nothing (slice_cmp nat_cmp) nat_list_cmp_total)
-    ∙ ap (λ (ts : Tables). Does (record { tables = ts; indexes = empty; preferences = no_preferences }) table_created) tables_created
+    ∙ ap (λ (ts : Tables). Does (record { tables = ts; indexes = empty; preferences = no_preferences; thesauri = no_thesauri }) table_created) tables_created
 
 index_is_created : effect without_index index_statement ≡ Does (state_with [] 0 []) index_created
 index_is_created =
@@ -456,7 +457,7 @@ index_is_created =
     ap (λ (o : Option Table). with_found o (UnknownName docs) (λ (x : Table). with_found (column_place (codes "body") x.columns) (UnknownName (codes "body")) (λ (place : ℕ). create_index_by without_index di docs (requests_in None) x place))) (table_there [])
     ∙ ap (λ (b : Bool). check_index b true (Some default_prefs) (nat_le index_limit (length (indexes_on without_index.indexes docs)) || has_too_many_rows without_index docs) di done) index_free.free
     ∙ ap (λ (b : Bool). check_index false true (Some default_prefs) b di done) index_free.few
-    ∙ ap (λ (xs : Names Index). Does (record { tables = tables_with []; indexes = xs; preferences = no_preferences }) index_created) indexes_created
+    ∙ ap (λ (xs : Names Index). Does (record { tables = tables_with []; indexes = xs; preferences = no_preferences; thesauri = no_thesauri }) index_created) indexes_created
 
 module _ (rows : List (ℤ × List Value)) (given : ℕ) (marks : List (ℤ × Its)) (r : ℤ) (values : List Operand) (rows_rise : T (is_sorted int_cmp rows)) (marks_rise : T (is_sorted int_cmp marks))
     (then_rows : T (is_sorted int_cmp (put_pair int_cmp r (others_kept values) rows))) (then_marks : T (is_sorted int_cmp (put_pair int_cmp r Pending marks))) (free : find int_cmp r rows ≡ None) where
@@ -475,8 +476,8 @@ module _ (rows : List (ℤ × List Value)) (given : ℕ) (marks : List (ℤ × I
       ∙ ap (λ (es : List (ℤ × List Value)). check_row_values false (nat_le row_limit (length es)) docs_columns values done) (entries-from_sorted int_cmp rows rows_rise)
       ∙ ap (λ (b : Bool). check_row_values false b docs_columns values done) few
       ∙ checked done
-      ∙ ap (λ (xs : Names Index). Does (record { tables = us; indexes = xs; preferences = no_preferences }) row_created) (indexes_with_note rows given marks r (others_kept values) rows_rise marks_rise then_rows then_marks free)
-      ∙ ap (λ (ts : Tables). Does (record { tables = ts; indexes = indexes_with given (put_pair int_cmp r Pending marks); preferences = no_preferences }) row_created) (tables_with_row rows given marks r (others_kept values) rows_rise marks_rise then_rows then_marks free)
+      ∙ ap (λ (xs : Names Index). Does (record { tables = us; indexes = xs; preferences = no_preferences; thesauri = no_thesauri }) row_created) (indexes_with_note rows given marks r (others_kept values) rows_rise marks_rise then_rows then_marks free)
+      ∙ ap (λ (ts : Tables). Does (record { tables = ts; indexes = indexes_with given (put_pair int_cmp r Pending marks); preferences = no_preferences; thesauri = no_thesauri }) row_created) (tables_with_row rows given marks r (others_kept values) rows_rise marks_rise then_rows then_marks free)
 
 index_is_synced : effect (state_with one_row 0 ((pos 1, Pending) ∷ [])) sync_statement ≡ Does (state_with one_row 1 ((pos 1, Settled tt) ∷ [])) call_done
 index_is_synced =
@@ -484,7 +485,7 @@ index_is_synced =
     ap (λ (o : Option Index). check_sync (unknown_name (is_some o) (Some di)) (TextArg di ∷ []) (sync_named m (Some di))) (index_there 0 ((pos 1, Pending) ∷ []))
     ∙ ap (λ (o : Option Index). with_found o (UnknownName di) (λ (x : Index). sync_found m di x)) (index_there 0 ((pos 1, Pending) ∷ []))
     ∙ ap (λ (b : Bool). refuse b LimitReached (Does (with_synced m di) call_done)) few_enough
-    ∙ ap (λ (xs : Names Index). Does (record { tables = tables_with one_row; indexes = xs; preferences = no_preferences }) call_done) indexes_synced
+    ∙ ap (λ (xs : Names Index). Does (record { tables = tables_with one_row; indexes = xs; preferences = no_preferences; thesauri = no_thesauri }) call_done) indexes_synced
 
 pub it_is_led_to : after_all empty_state shown_statements ≡ shown_state
 it_is_led_to =

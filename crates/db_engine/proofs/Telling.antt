@@ -4,8 +4,8 @@ use Rattle.std.specs.Prelude.{not, codes}
 use Rattle.std.specs.Bool.{if◌then◌else◌}
 use Rattle.std.specs.declared.alloc.Global.{Global}
 use Rattle.ct_keep.specs.KeeperViews.{KeeperView}
-use Rattle.db_cond.specs.Faults.{Refusal, NotUnderstood, UnknownName, ExistsAlready, WrongValues, KeyExists, ValueTooLong, StatementTooLong, QuerySyntax, NotInProfile, QueryNumber, NotOneWord, UnknownSection, FieldInside, QueryTooLarge, OutOfRange, NoIndexOfKind, BadValue, LimitReached, refusal_line, store_full}
-use Rattle.st_parse.specs.declared.procedures.Procedure.TheVariants.{PolicyTokens, SyncIndex, Define}
+use Rattle.db_cond.specs.Faults.{Refusal, NotUnderstood, UnknownName, ExistsAlready, WrongValues, KeyExists, ValueTooLong, StatementTooLong, QuerySyntax, NotInProfile, QueryNumber, NotOneWord, UnknownSection, FieldInside, UnknownThesaurus, TooManyTerms, QueryTooLarge, OutOfRange, NoIndexOfKind, BadValue, LimitReached, refusal_line, store_full}
+use Rattle.st_parse.specs.declared.procedures.Procedure.TheVariants.{PolicyTokens, SyncIndex, Define, Thesaurus}
 use Rattle.st_parse.specs.declared.statements.Statement.{Statement}
 use Rattle.st_parse.specs.declared.statements.Statement.TheVariants.{CreateTable, DropTable, DropIndex, CreateIndex, Insert, Update, Delete, Select, Exec, Commit}
 use Rattle.db_change.specs.Creating.{table_created}
@@ -43,6 +43,8 @@ not_full (QueryNumber place) is = let e : 50 ≡ 56 = ap second is in omega (ari
 not_full (NotOneWord place) is = let e : 50 ≡ 56 = ap second is in omega (arith, e)
 not_full (UnknownSection name) is = let e : 50 ≡ 56 = ap second is in omega (arith, e)
 not_full (FieldInside name) is = let e : 50 ≡ 56 = ap second is in omega (arith, e)
+not_full (UnknownThesaurus name) is = let e : 50 ≡ 56 = ap second is in omega (arith, e)
+not_full TooManyTerms is = let e : 50 ≡ 56 = ap second is in omega (arith, e)
 not_full QueryTooLarge is = let e : 50 ≡ 56 = ap second is in omega (arith, e)
 not_full OutOfRange is = let e : 50 ≡ 56 = ap second is in omega (arith, e)
 not_full NoIndexOfKind is = let e : 50 ≡ 56 = ap second is in omega (arith, e)
@@ -80,6 +82,7 @@ not_done (Insert table columns values) done rows is full = let line : line_for_a
 not_done (Exec PolicyTokens args) done rows is full = cc
 not_done (Exec SyncIndex args) done rows is full = let line : line_for_all call_done ≡ done = cc in let e : 76 ≡ 56 = ap second (ap (λ (l : DoneLines). l rows) line ∙ full) in omega (arith, e)
 not_done (Exec (Define definition) args) done rows is full = let line : line_for_all call_done ≡ done = cc in let e : 76 ≡ 56 = ap second (ap (λ (l : DoneLines). l rows) line ∙ full) in omega (arith, e)
+not_done (Exec (Thesaurus procedure) args) done rows is full = let line : line_for_all call_done ≡ done = cc in let e : 76 ≡ 56 = ap second (ap (λ (l : DoneLines). l rows) line ∙ full) in omega (arith, e)
 not_done (DropTable name) done rows is full = let line : line_for_all table_dropped ≡ done = cc in let e : 97 ≡ 56 = ap second (ap (λ (l : DoneLines). l rows) line ∙ full) in omega (arith, e)
 not_done (DropIndex name) done rows is full = let line : line_for_all index_dropped ≡ done = cc in let e : 110 ≡ 56 = ap second (ap (λ (l : DoneLines). l rows) line ∙ full) in omega (arith, e)
 not_done (Update table assigns conds) done rows is full = let lines : rows_updated ≡ done = cc in ends_otherwise _ 117 112 100 (codes "ated.\n") refl (ap (λ (l : DoneLines). l rows) lines ∙ full)
@@ -99,6 +102,7 @@ fixed_looks (Insert table columns values) is = cc
 fixed_looks (Exec PolicyTokens args) is = refl
 fixed_looks (Exec SyncIndex args) is = cc
 fixed_looks (Exec (Define definition) args) is = cc
+fixed_looks (Exec (Thesaurus procedure) args) is = cc
 fixed_looks (DropTable name) is = cc
 fixed_looks (DropIndex name) is = cc
 fixed_looks (Update table assigns conds) is = cc

@@ -10,7 +10,7 @@ use Rattle.st_parse.specs.declared.statements.Arg.{Arg}
 use Rattle.st_parse.specs.declared.statements.SelectList.TheVariants.{Star}
 use Rattle.st_parse.specs.declared.procedures.Definition.TheVariants.{CreateStoplist}
 use Rattle.st_parse.specs.declared.procedures.Procedure.{Procedure}
-use Rattle.st_parse.specs.declared.procedures.Procedure.TheVariants.{PolicyTokens, SyncIndex, Define}
+use Rattle.st_parse.specs.declared.procedures.Procedure.TheVariants.{PolicyTokens, SyncIndex, Define, Thesaurus}
 use Rattle.st_parse.specs.declared.statements.Statement.{Statement}
 use Rattle.st_parse.specs.declared.statements.Statement.TheVariants.{CreateTable, DropTable, DropIndex, CreateIndex, Insert, Update, Delete, Select, Exec, Commit}
 use Rattle.db_cond.specs.Faults.{store_full}
@@ -84,6 +84,7 @@ abbrev pub call_line : Procedure → Option DoneLines
 call_line PolicyTokens = None
 call_line SyncIndex = Some (line_for_all call_done)
 call_line (Define definition) = Some (line_for_all call_done)
+call_line (Thesaurus procedure) = Some (line_for_all call_done)
 
 -- The lines by which a statement says that its change is made. None where it changes nothing: it only looks, is COMMIT, or is refused since it isn't built yet.
 abbrev pub done_line : Statement → Option DoneLines
@@ -103,6 +104,7 @@ abbrev pub is_fixed_call : Procedure → List Arg → Bool
 is_fixed_call PolicyTokens args = reads_no_preference args
 is_fixed_call SyncIndex args = false
 is_fixed_call (Define definition) args = false
+is_fixed_call (Thesaurus procedure) args = false
 
 -- Whether the reply to a statement is the same in every state: it asks of a text alone, is COMMIT, or isn't built yet.
 abbrev pub is_fixed : Statement → Bool

@@ -1,4 +1,5 @@
 pub mod Steps
 pub mod Executing
+pub mod Looking
 pub mod Runs
 pub mod ShownStore

@@ -20,6 +20,7 @@ use Rattle.st_parse.specs.declared.procedures.Procedure.TheVariants.{SyncIndex}
 use Rattle.st_parse.specs.declared.statements.Statement.TheVariants.{CreateTable, CreateIndex, Insert, Exec}
 use Rattle.st_parse.specs.declared.statements.Whole.TheVariants.{Fits}
 use Rattle.tx_prefs.specs.Preferences.{no_preferences}
+use Rattle.th_store.specs.Thesauri.{no_thesauri}
 use Rattle.db_state.specs.States.{StoreState}
 use Rattle.db_state.specs.Effects.{state_by}
 use Rattle.db_state.specs.Room.{docs_and_di}
@@ -103,7 +104,7 @@ shown_index = record {
 }
 
 abbrev pub shown_state : StoreState
-shown_state = record { tables = from_sorted ((codes "docs", shown_table) ∷ []); indexes = from_sorted ((codes "di", shown_index) ∷ []); preferences = no_preferences }
+shown_state = record { tables = from_sorted ((codes "docs", shown_table) ∷ []); indexes = from_sorted ((codes "di", shown_index) ∷ []); preferences = no_preferences; thesauri = no_thesauri }
 
 -- the state whose room is an example of rooms
 shown_before : shown_state ≡ docs_and_di

@@ -16,7 +16,7 @@ use Rattle.st_parse.specs.declared.statements.IndexKind.TheVariants.{Context, Ct
 use Rattle.st_parse.specs.declared.statements.Whole.{Whole}
 use Rattle.st_parse.specs.declared.statements.Whole.TheVariants.{Fits}
 use Rattle.st_parse.specs.declared.procedures.Procedure.{Procedure}
-use Rattle.st_parse.specs.declared.procedures.Procedure.TheVariants.{PolicyTokens, SyncIndex, Define}
+use Rattle.st_parse.specs.declared.procedures.Procedure.TheVariants.{PolicyTokens, SyncIndex, Define, Thesaurus}
 use Rattle.st_parse.specs.declared.statements.Statement.{Statement}
 use Rattle.st_parse.specs.declared.statements.Statement.TheVariants.{CreateTable, DropTable, DropIndex, CreateIndex, Insert, Update, Delete, Select, Exec, Commit}
 use Rattle.st_parse.specs.Grammar.{Read, NoStatement, Found, read}
@@ -32,6 +32,7 @@ use Rattle.db_select.specs.Statements.{select_statement}
 use Rattle.db_index.specs.Tokenizing.{policy_tokens}
 use Rattle.db_index.specs.Syncing.{sync_index}
 use Rattle.db_prefs.specs.Defining.{define}
+use Rattle.db_thes.specs.Calling.{call_thesaurus}
 
 -- ---- what the call of a procedure does
 
@@ -39,6 +40,7 @@ abbrev pub call : StoreState → Procedure → List Arg → Effect
 call m PolicyTokens args = policy_tokens m args
 call m SyncIndex args = sync_index m args
 call m (Define definition) args = define m definition args
+call m (Thesaurus procedure) args = call_thesaurus m procedure args
 
 -- of the indexes those of kind CONTEXT without PARALLEL are built so far
 abbrev pub is_context : IndexKind → Bool
@@ -75,6 +77,7 @@ abbrev pub may_fill_by : Procedure → Bool
 may_fill_by PolicyTokens = false
 may_fill_by SyncIndex = true
 may_fill_by (Define definition) = true
+may_fill_by (Thesaurus procedure) = true
 
 -- Whether the statement may be: one that only looks, or only takes entries away, never is.
 abbrev pub may_fill : Statement → Bool

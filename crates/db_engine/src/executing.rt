@@ -2,12 +2,13 @@
 #![tactic(auto, using(ct_keep::specs::laws::Composing::reads_on, ct_keep::specs::laws::Composing::reads_short))]
 
 ghost use Rattle.std.specs.Prelude.{ℕ, ◌≡◌, ◌&&◌, List, IfOk, Some, None, Err, true, false, not, codes, bytes_eq};
-ghost use Rattle.ct_keep.specs.KeeperViews.{AtMostOneCommit, SameButContent, OnlyReads, ReadsKeeper, Told};
+ghost use Rattle.ct_keep.specs.KeeperViews.{AtMostOneCommit, SameButContent, OnlyReads, ReadsKeeper, Told, fault_of};
 ghost use Rattle.db_state.specs.Shapes.{AcceptsStatements};
 ghost use Rattle.db_cond.specs.Faults.{NotUnderstood, refusal_line};
 ghost use Rattle.db_state.specs.Effects.{reply_by};
 ghost use Rattle.db_state.specs.States.{StoreState};
 ghost use Rattle.db_engine.specs.Steps.{call as call_effect, create_index_if, effect, is_built_index as built_index, may_fill, may_fill_by};
+ghost use Rattle.db_engine.specs.Looking.{LooksAsAllowed};
 ghost use Rattle.db_engine.specs.Executing.{ExecutesStatement, FullByCount, IfText, NoTextIsFull, Tells, call_line, done_line, fault_of_stop, index_line, is_fixed, is_fixed_call};
 ghost use Rattle.db_state.specs.Plans.{DoneLines, GivesReply, Replies};
 
@@ -18,8 +19,9 @@ use db_change::{create_table, delete_from, drop_table, insert_into, update};
 use db_cond::not_understood;
 use db_index::{create_index, drop_index, policy_tokens, sync_index};
 use db_prefs::define;
-use db_select::select;
+use db_select::{looking_law, select};
 use db_state::fixed_reply;
+use db_thes::call_thesaurus;
 use st_parse::{Arg, IndexKind, Procedure, Statement, Whole};
 use std::alloc::Global;
 use std::thread::Threads;
@@ -49,6 +51,9 @@ fn call<R: Threads + Sync, K: Keeper>(
         Procedure::PolicyTokens => policy_tokens(alloc, keeper, args.as_slice()),
         Procedure::SyncIndex => sync_index(rt, alloc, degree, keeper, args.as_slice()),
         Procedure::Define(definition) => define(alloc, keeper, definition, args.as_slice()),
+        Procedure::Thesaurus(procedure) => {
+            call_thesaurus(alloc, keeper, procedure, args.as_slice())
+        }
     }
 }
 
@@ -93,7 +98,9 @@ fn reply_to<R: Threads + Sync, K: Keeper>(
     ensures serves { Replies K.view keeper.old keeper.new result (λ m. effect m statement.now) (done_line statement.now) }
     ensures fixed { (m : StoreState) → is_fixed statement.now ≡ true → GivesReply result (effect m statement.now) }
     ensures may { Told K.view keeper.old (λ m. result ≡ Err KeepFault.Full → may_fill statement.now ≡ true) }
+    ensures looks { LooksAsAllowed statement.now (K.view keeper.old) (K.view keeper.new) (fault_of result) }
 {
+    looking_law();
     match statement {
         Statement::CreateTable { name, columns } => {
             create_table(alloc, keeper, name, columns.as_slice())
@@ -157,6 +164,7 @@ pub fn execute<R: Threads + Sync, K: Keeper>(
     ensures full { FullByCount (K.view keeper.old) (K.view keeper.new) result }
     ensures no_text { (done : DoneLines) → done_line statement.now ≡ Some done → NoTextIsFull result }
     ensures fixed { (m : StoreState) → is_fixed statement.now ≡ true → IfText (λ reply. reply ≡ reply_by (effect m statement.now)) result }
+    ensures looks { LooksAsAllowed statement.now (K.view keeper.old) (K.view keeper.new) (fault_of_stop result) }
 {
     match reply_to(rt, alloc, degree, keeper, statement) {
         Ok(lines) => Ok(Reply::Text(Bytes::of(lines))),

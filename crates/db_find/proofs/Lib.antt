@@ -1,4 +1,4 @@
-pub mod KeysAlone
 pub mod Scores
 pub mod Searchable
 pub mod SeekLaws
+pub mod ThesaurusSteps

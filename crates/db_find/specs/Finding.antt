@@ -4,6 +4,7 @@ use Rattle.std.specs.Option.{option_map}
 use Rattle.std.specs.declared.alloc.Global.{Global}
 use Rattle.ct_keep.specs.declared.keepers.KeepFault.{KeepFault}
 use Rattle.tb_table.specs.Tables.{Tables}
+use Rattle.th_store.specs.Thesauri.{Thesauri}
 use Rattle.q_tree.specs.declared.flats.Flat.{Flat}
 use Rattle.q_tree.specs.ReducedQueries.{reduced_of}
 use Rattle.ix_kinds.specs.Rows.{table_at}
@@ -26,22 +27,22 @@ found_by ts x meaning threshold = []
 
 -- ---- each kind
 
--- why a search is refused by its index, if it is
-abbrev pub search_refusal : Index → Search → Option Refusal
-search_refusal x (Contains column query label above) = refusal_in (meaning_of x.prefs query)
+-- why a search is refused by its index, where these thesauri are there, if it is
+abbrev pub search_refusal : Thesauri → Index → Search → Option Refusal
+search_refusal thesauri x (Contains column query label above) = refusal_in (meaning_of x.prefs thesauri query)
 
--- THE ROWS THAT A SEARCH FINDS in its index: their keys with their scores, in the order of the keys
-abbrev pub search_rows : Tables → Index → Search → List (ℤ × ℕ)
-search_rows ts x (Contains column query label above) = found_by ts x (meaning_of x.prefs query) (threshold_of above)
+-- THE ROWS THAT A SEARCH FINDS in its index, where these tables and thesauri are there: their keys with their scores, in the order of the keys
+abbrev pub search_rows : Tables → Thesauri → Index → Search → List (ℤ × ℕ)
+search_rows ts thesauri x (Contains column query label above) = found_by ts x (meaning_of x.prefs thesauri query) (threshold_of above)
 
 -- the same where there may be no index: no refusal, and no rows
-abbrev pub refused_by : Option Index → Search → Option Refusal
-refused_by None s = None
-refused_by (Some x) s = search_refusal x s
+abbrev pub refused_by : Thesauri → Option Index → Search → Option Refusal
+refused_by thesauri None s = None
+refused_by thesauri (Some x) s = search_refusal thesauri x s
 
-abbrev pub found_in : Tables → Option Index → Search → List (ℤ × ℕ)
-found_in ts None s = []
-found_in ts (Some x) s = search_rows ts x s
+abbrev pub found_in : Tables → Thesauri → Option Index → Search → List (ℤ × ℕ)
+found_in ts thesauri None s = []
+found_in ts thesauri (Some x) s = search_rows ts thesauri x s
 
 -- ---- as code holds it
 
@@ -59,8 +60,8 @@ abbrev pub FindsByMeaning : Tables → Index → Meaning → Option ℕ → Resu
 FindsByMeaning ts x meaning above result = IfOk result (GivesFound (refusal_in meaning) (found_by ts x meaning above))
 
 -- a call that didn't fail gave what a search finds in its index
-abbrev pub FindsBySearch : Tables → Index → Search → Result Found KeepFault → Type 0
-FindsBySearch ts x search result = IfOk result (GivesFound (search_refusal x search) (search_rows ts x search))
+abbrev pub FindsBySearch : Tables → Thesauri → Index → Search → Result Found KeepFault → Type 0
+FindsBySearch ts thesauri x search result = IfOk result (GivesFound (search_refusal thesauri x search) (search_rows ts thesauri x search))
 
 -- a call that didn't fail gave what an index finds by a query with a score above a number
 abbrev pub FindsBy : Tables → Index → Option Flat → Option ℕ → Result (Vec Hit Global) KeepFault → Type 0

@@ -1,5 +1,6 @@
 pub mod Searches
 pub mod Seeking
+pub mod Thesauri
 pub mod Querying
 pub mod Meanings
 pub mod Finding

@@ -1,15 +1,23 @@
 -- How much a search looks at.
-use Rattle.std.specs.Prelude.{ℕ, ◌≡◌, List, Option, Some, None, codes, refl}
+use Rattle.std.specs.Prelude.{ℕ, pos, ◌≡◌, List, Option, Some, None, codes, refl}
 use Rattle.std.specs.Option.{option_map}
 use Rattle.std.specs.FinMap.{get}
+use Rattle.std.specs.Str.{chars}
+use lib.Utf8.{encode}
+use Rattle.caseless.proofs.Computing.{caseless}
+use Rattle.ucd_category.proofs.Computing.{ucd_category}
+use Rattle.tx_chars.specs.Keys.{key_text}
 use Rattle.ct_keep.specs.Content.{Content}
 use Rattle.ct_keep.specs.KeeperViews.{Counts, KeeperView}
 use Rattle.ct_keep.specs.Looks.{no_looks, LooksAtMost}
 use Rattle.q_tree.specs.declared.flats.Flat.{Flat}
 use Rattle.q_tree.specs.ReducedQueries.{reduced_of}
+use Rattle.th_store.specs.Thesauri.{Thesauri}
 use Rattle.ix_indexes.specs.Indexes.{Index}
-use Rattle.ix_search.specs.Looking.{query_looks}
+use Rattle.ix_search.specs.Finding.{key_query, three_rows}
+use Rattle.ix_search.specs.Looking.{query_allowance, query_looks}
 use Rattle.st_parse.specs.declared.statements.Whole.{Whole}
+use Rattle.st_parse.specs.declared.statements.Whole.TheVariants.{Fits}
 use Rattle.db_state.specs.States.{StoreState, StandsForState}
 use Rattle.db_find.specs.Querying.{Meaning, Finds, meaning_of}
 use Rattle.db_find.specs.Searches.{Search, Contains, threshold_of}
@@ -23,23 +31,45 @@ meaning_looks c i meaning threshold = no_looks
 abbrev pub flat_looks : Content → List ℕ → Option Flat → Option ℕ → Counts
 flat_looks c i flat threshold = meaning_looks c i (Finds (option_map reduced_of flat)) threshold
 
-abbrev pub text_looks : Content → List ℕ → Index → List ℕ → Whole → Counts
-text_looks c i x query above = meaning_looks c i (meaning_of x.prefs query) (threshold_of above)
+abbrev pub text_looks : Content → Thesauri → List ℕ → Index → List ℕ → Whole → Counts
+text_looks c thesauri i x query above = meaning_looks c i (meaning_of x.prefs thesauri query) (threshold_of above)
 
--- WHAT A SEARCH LOOKS AT in the index of this name
-abbrev pub search_looks : Content → List ℕ → Index → Search → Counts
-search_looks c i x (Contains column query label above) = text_looks c i x query above
+-- WHAT A SEARCH LOOKS AT in the index of this name, where these thesauri are there
+abbrev pub search_looks : Content → Thesauri → List ℕ → Index → Search → Counts
+search_looks c thesauri i x (Contains column query label above) = text_looks c thesauri i x query above
 
 -- in the index that it needs, with its name; nothing where there is none
-abbrev pub looks_in : Content → Option (List ℕ × Index) → Search → Counts
-looks_in c None s = no_looks
-looks_in c (Some named) s = search_looks c named.0 named.1 s
+abbrev pub looks_in : Content → Thesauri → Option (List ℕ × Index) → Search → Counts
+looks_in c thesauri None s = no_looks
+looks_in c thesauri (Some named) s = search_looks c thesauri named.0 named.1 s
 
 -- A call looked at no more than this, of the index of this name.
-abbrev pub LooksInIndex : {K : Type 0} → (K → KeeperView) → K → K → List ℕ → (Content → Index → Counts) → Type 0
+abbrev pub LooksInIndex : {K : Type 0} → (K → KeeperView) → K → K → List ℕ → (Content → StoreState → Index → Counts) → Type 0
 LooksInIndex view old new i most =
-    (m : StoreState) (c : Content) (x : Index) → (view old).content ≡ Some c → StandsForState c m → get m.indexes i ≡ Some x → LooksAtMost view old new (most c x)
+    (m : StoreState) (c : Content) (x : Index) → (view old).content ≡ Some c → StandsForState c m → get m.indexes i ≡ Some x → LooksAtMost view old new (most c m x)
 
--- computed example: nothing is looked at for a query of stopwords alone
+-- ---- by rows
+
+-- how many rows of postings and of sections a query text may look up by what it means, with a score above a number
+abbrev pub meaning_allowance : Content → List ℕ → Meaning → Option ℕ → ℕ
+meaning_allowance c i (Finds (Some q)) (Some n) = query_allowance c i q
+meaning_allowance c i meaning threshold = 0
+
+-- HOW MANY ROWS A SEARCH MAY LOOK UP in the index of this name, where these thesauri are there
+abbrev pub search_allowance : Content → Thesauri → List ℕ → Index → Search → ℕ
+search_allowance c thesauri i x (Contains column query label above) = meaning_allowance c i (meaning_of x.prefs thesauri query) (threshold_of above)
+
+-- in the index that it needs, with its name; none where there is none
+abbrev pub allowance_in : Content → Thesauri → Option (List ℕ × Index) → Search → ℕ
+allowance_in c thesauri None s = 0
+allowance_in c thesauri (Some named) s = search_allowance c thesauri named.0 named.1 s
+
+-- ---- computed examples: nothing is looked at for a query of stopwords alone
+
 of_no_query : (c : Content) → meaning_looks c (codes "di") (Finds None) (Some 0) ≡ no_looks
 of_no_query c = refl
+
+-- the query text `fox` means the key `fox`
+rows_of_a_word : (c : Content) (thesauri : Thesauri) → search_allowance c thesauri (codes "di") three_rows (Contains (codes "body") (codes "fox") None (Fits (pos 0))) ≡ query_allowance c (codes "di") (key_query (codes "fox"))
+unfolding encode chars caseless ucd_category key_text
+rows_of_a_word c thesauri = refl

@@ -1,7 +1,10 @@
 -- What a query text of CONTAINS means to an index.
-use Rattle.std.specs.Prelude.{ℕ, Bool, false, not, ◌&&◌, List, [], ◌∷◌, ◌++◌, Option, Some, None, codes, ◌≡◌, refl}
-use Rattle.std.specs.Bool.{if◌then◌else◌}
-use Rattle.std.specs.List.{list_all}
+use Rattle.std.specs.Prelude.{ℕ, false, List, [], ◌∷◌, ◌++◌, Option, Some, None, codes, ◌≡◌, refl}
+use Rattle.std.specs.Option.{option_map}
+use Rattle.std.specs.FinMap.{get-empty}
+use Rattle.std.specs.Ordering.{nat_cmp}
+use Rattle.std.specs.Cmp.Lexicographic.{slice_cmp}
+use Rattle.std.proofs.Common.{ap}
 use Rattle.std.specs.Str.{chars}
 use lib.Utf8.{encode}
 use Rattle.ucd_category.proofs.Computing.{ucd_category}
@@ -9,47 +12,31 @@ use Rattle.caseless.proofs.Computing.{caseless}
 use Rattle.tx_chars.specs.Keys.{key_text}
 use Rattle.tx_settings.specs.declared.preferences.Prefs.{Prefs}
 use Rattle.tx_settings.specs.Defaults.{default_prefs}
+use Rattle.q_tree.specs.declared.flats.PatternBit.TheVariants.{Chars, Many}
+use Rattle.q_tree.specs.declared.flats.Slot.TheVariants.{Takes}
+use Rattle.q_tree.specs.declared.flats.SumStep.TheVariants.{Occurrence}
 use Rattle.q_tree.specs.declared.queries.Op.TheVariants.{And}
-use Rattle.q_tree.specs.declared.queries.Word.{Word}
-use Rattle.q_tree.specs.declared.queries.Leaf.{Leaf}
-use Rattle.q_tree.specs.declared.queries.Leaf.TheVariants.{Phrase, Thes}
-use Rattle.q_tree.specs.Limits.{has_wildcard}
-use Rattle.q_tree.specs.Trees.{Tree, Single, Both, Weight, Above, Near, Within, Define}
-use Rattle.q_tree.specs.ReducedQueries.{Reduced, Both as ReducedBoth}
+use Rattle.q_tree.specs.declared.queries.WordBit.TheVariants.{Chars as CharsBit}
+use Rattle.q_tree.specs.declared.queries.Relation.TheVariants.{Syn}
+use Rattle.q_tree.specs.declared.queries.Leaf.TheVariants.{Thes}
+use Rattle.q_tree.specs.Trees.{Tree, Single}
+use Rattle.q_tree.specs.ReducedQueries.{Reduced, Term, Both as ReducedBoth, Define as ReducedDefine}
 use Rattle.q_parse.specs.declared.faults.Cause.{Cause}
 use Rattle.q_parse.specs.declared.faults.Cause.TheVariants.{OutOfRange, NotInProfile as ForeignCause, Syntax}
 use Rattle.q_parse.specs.Faults.{Verdict, TooLarge, Found, Fault}
 use Rattle.q_parse.specs.Verdicts.{verdict}
 use Rattle.q_reduce.specs.Reducing.{Context, reduced}
-use Rattle.q_reduce.specs.Faults.{Fault as ReductionFault, NoSection, FieldInside as FieldFault, ManyTokens, faults}
+use Rattle.q_reduce.specs.Naming.{thesauri_in}
+use Rattle.q_reduce.specs.Faults.{Fault as ReductionFault, NoSection, FieldInside as FieldFault, NoThesaurus, ManyTerms, ManyTokens, faults}
 use Rattle.ix_search.specs.Finding.{key_query}
-use Rattle.db_cond.specs.Faults.{Refusal, QuerySyntax, NotInProfile, QueryNumber, NotOneWord, UnknownSection, FieldInside, QueryTooLarge}
+use Rattle.db_cond.specs.Faults.{Refusal, QuerySyntax, NotInProfile, QueryNumber, NotOneWord, UnknownSection, FieldInside, UnknownThesaurus, TooManyTerms, QueryTooLarge}
+use Rattle.th_store.specs.Thesauri.{PairSet, Thesauri, no_thesauri, pairs_of}
+use Rattle.db_find.specs.Thesauri.{NamedPairs, found_thesaurus, thesauri_of}
 
 -- A query is refused; or it finds what a reduced query does, or nothing.
 pub data Meaning : Type 0 where
   Refuses : Refusal → Meaning
   Finds : Option Reduced → Meaning
-
--- ---- which queries are searched so far
-
--- leaves without wildcards and without thesauri
-abbrev pub is_built_leaf : Leaf → Bool
-is_built_leaf (Phrase places) = list_all (λ (ws : List Word). list_all (λ (w : Word). not (has_wildcard w.bits)) ws) places
-is_built_leaf (Thes relation words level thesaurus) = false
-
--- Whether all forms of a query are searched: it has no wildcards, no thesauri and no DEFINESCORE.
-abbrev pub has_built_forms : Tree → Bool
-has_built_forms (Single leaf) = is_built_leaf leaf
-has_built_forms (Both op a b) = has_built_forms a && has_built_forms b
-has_built_forms (Weight tenths a) = has_built_forms a
-has_built_forms (Above n a) = has_built_forms a
-has_built_forms (Near operands span ordered) = list_all (list_all is_built_leaf) operands
-has_built_forms (Within name a) = has_built_forms a
-has_built_forms (Define leaves sum) = false
-
--- the refusal of a query that is read and of which no search is built yet
-abbrev pub not_searched_yet : Refusal
-not_searched_yet = NotInProfile 1
 
 -- ---- from the text
 
@@ -63,73 +50,80 @@ refusal_at OutOfRange place = QueryNumber place
 abbrev pub reduction_refusal : ReductionFault → Refusal
 reduction_refusal (NoSection name) = UnknownSection name
 reduction_refusal (FieldFault name) = FieldInside name
+reduction_refusal (NoThesaurus name) = UnknownThesaurus name
+reduction_refusal ManyTerms = TooManyTerms
 reduction_refusal (ManyTokens place) = NotOneWord place
 
--- by what an index with these preferences reduces queries
-abbrev pub reduction_context : Prefs → Context
-reduction_context p = record { lexer = p.lexer; stop = p.stop; group = p.group }
+-- by what an index with these preferences reduces queries, where these thesauri are there
+abbrev pub reduction_context : Prefs → List NamedPairs → Context
+reduction_context p thesauri = record { lexer = p.lexer; stop = p.stop; group = p.group; thesauri = thesauri }
 
 -- a fault of reduction comes first, also where what is left is nothing
 abbrev pub meaning_of_reduction : List ReductionFault → Option Reduced → Meaning
 meaning_of_reduction (f ∷ fs) q = Refuses (reduction_refusal f)
 meaning_of_reduction [] q = Finds q
 
-abbrev pub meaning_of_tree : Prefs → Tree → Meaning
-meaning_of_tree p t = if has_built_forms t then meaning_of_reduction (faults (reduction_context p) false t) (reduced (reduction_context p) t) else Refuses not_searched_yet
+-- by these thesauri
+abbrev pub meaning_by : Prefs → List NamedPairs → Tree → Meaning
+meaning_by p thesauri t = meaning_of_reduction (faults (reduction_context p thesauri) false t) (reduced (reduction_context p thesauri) t)
 
-abbrev pub meaning_of_verdict : Prefs → Verdict → Meaning
-meaning_of_verdict p TooLarge = Refuses QueryTooLarge
-meaning_of_verdict p (Fault why place) = Refuses (refusal_at why place)
-meaning_of_verdict p (Found t) = meaning_of_tree p t
+-- by the thesauri that the query names; each of its operators finds by its name what the state has there, which is a law (`named_is_stored`)
+abbrev pub meaning_of_tree : Prefs → Thesauri → Tree → Meaning
+meaning_of_tree p ts t = meaning_by p (thesauri_of ts (thesauri_in t)) t
 
--- WHAT A QUERY TEXT MEANS to an index with these preferences
-abbrev pub meaning_of : Prefs → List ℕ → Meaning
-meaning_of p text = meaning_of_verdict p (verdict (chars text))
+abbrev pub meaning_of_verdict : Prefs → Thesauri → Verdict → Meaning
+meaning_of_verdict p ts TooLarge = Refuses QueryTooLarge
+meaning_of_verdict p ts (Fault why place) = Refuses (refusal_at why place)
+meaning_of_verdict p ts (Found t) = meaning_of_tree p ts t
+
+-- WHAT A QUERY TEXT MEANS to an index with these preferences, in a state with these thesauri
+abbrev pub meaning_of : Prefs → Thesauri → List ℕ → Meaning
+meaning_of p ts text = meaning_of_verdict p ts (verdict (chars text))
 
 -- the refusal, if it is one
 abbrev pub refusal_in : Meaning → Option Refusal
 refusal_in (Refuses refusal) = Some refusal
 refusal_in (Finds q) = None
 
--- computed examples, by the default preferences
-a_word : meaning_of default_prefs (codes "Web2") ≡ Finds (Some (key_query (codes "web2")))
+-- computed examples, by the default preferences, where there is no thesaurus
+a_word : meaning_of default_prefs no_thesauri (codes "Web2") ≡ Finds (Some (key_query (codes "web2")))
 unfolding encode chars caseless ucd_category key_text
 a_word = refl
 
 -- café, with its two bytes of é
-accented : meaning_of default_prefs (codes "Caf" ++ 0xC3 ∷ 0xA9 ∷ []) ≡ Finds (Some (key_query (codes "caf" ++ 0xC3 ∷ 0xA9 ∷ [])))
+accented : meaning_of default_prefs no_thesauri (codes "Caf" ++ 0xC3 ∷ 0xA9 ∷ []) ≡ Finds (Some (key_query (codes "caf" ++ 0xC3 ∷ 0xA9 ∷ [])))
 unfolding encode chars caseless ucd_category key_text
 accented = refl
 
-no_text : meaning_of default_prefs [] ≡ Refuses (QuerySyntax 1)
+no_text : meaning_of default_prefs no_thesauri [] ≡ Refuses (QuerySyntax 1)
 unfolding encode chars caseless ucd_category key_text
 no_text = refl
 
-comma : meaning_of default_prefs (codes "a,b") ≡ Refuses (NotInProfile 2)
+comma : meaning_of default_prefs no_thesauri (codes "a,b") ≡ Refuses (NotInProfile 2)
 unfolding encode chars caseless ucd_category key_text
 comma = refl
 
-no_weight : meaning_of default_prefs (codes "quick*0") ≡ Refuses (QueryNumber 7)
+no_weight : meaning_of default_prefs no_thesauri (codes "quick*0") ≡ Refuses (QueryNumber 7)
 unfolding encode chars caseless ucd_category key_text
 no_weight = refl
 
 -- the text of `web\-site = shop`
-two_tokens : meaning_of default_prefs (codes "web" ++ 92 ∷ codes "-site = shop") ≡ Refuses (NotOneWord 1)
+two_tokens : meaning_of default_prefs no_thesauri (codes "web" ++ 92 ∷ codes "-site = shop") ≡ Refuses (NotOneWord 1)
 unfolding encode chars caseless ucd_category key_text
 two_tokens = refl
 
-two_words : meaning_of default_prefs (codes "a AND b") ≡ Finds (Some (ReducedBoth And (key_query (codes "a")) (key_query (codes "b"))))
+two_words : meaning_of default_prefs no_thesauri (codes "a AND b") ≡ Finds (Some (ReducedBoth And (key_query (codes "a")) (key_query (codes "b"))))
 unfolding encode chars caseless ucd_category key_text
 two_words = refl
 
-a_wildcard : meaning_of default_prefs (codes "caf%") ≡ Refuses not_searched_yet
+a_wildcard : meaning_of default_prefs no_thesauri (codes "caf%") ≡ Finds (Some (Term ((Takes [] ((Chars (codes "caf") ∷ Many ∷ []) ∷ []) ∷ []) ∷ [])))
 unfolding encode chars caseless ucd_category key_text
 a_wildcard = refl
 
-a_synonym : meaning_of default_prefs (codes "SYN(a)") ≡ Refuses not_searched_yet
-unfolding encode chars caseless ucd_category key_text
-a_synonym = refl
+no_default : meaning_of default_prefs no_thesauri (codes "SYN(a)") ≡ Refuses (UnknownThesaurus (codes "default"))
+unfolding encode chars
+no_default = ap (λ (o : Option PairSet). meaning_by default_prefs (found_thesaurus (codes "default") (option_map pairs_of o) ++ []) (Single (Thes Syn (record { place = 5; bits = CharsBit (codes "a") ∷ [] } ∷ []) 1 (codes "default")))) (get-empty (slice_cmp nat_cmp) (codes "default"))
 
-a_sum : meaning_of default_prefs (codes "DEFINESCORE(a, OCCURRENCE)") ≡ Refuses not_searched_yet
+a_sum : meaning_of default_prefs no_thesauri (codes "DEFINESCORE(a, OCCURRENCE)") ≡ Finds (Some (ReducedDefine ((Takes (codes "a" ∷ []) [] ∷ []) ∷ []) (Occurrence ∷ [])))
 unfolding encode chars caseless ucd_category key_text
 a_sum = refl

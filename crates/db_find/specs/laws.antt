@@ -1,3 +1,4 @@
 pub mod Filtering
 pub mod Looking
 pub mod Seeking
+pub mod Thesauri

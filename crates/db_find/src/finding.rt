@@ -89,9 +89,9 @@ fn contained<K: Keeper>(
     above: Whole,
 ) -> Result<Found, KeepFault>
     requires { (K.view keeper.old).ready }
-    ensures found { OverIndex K.view keeper.old index.now (λ m x. FindsByMeaning m.tables x (meaning_of x.prefs query.now) (threshold_in above) result) }
+    ensures found { OverIndex K.view keeper.old index.now (λ m x. FindsByMeaning m.tables x (meaning_of x.prefs m.thesauri query.now) (threshold_in above) result) }
     ensures reads { OnlyReads K.view keeper.old keeper.new result }
-    ensures at_most { LooksInIndex K.view keeper.old keeper.new index.now (λ m x. text_looks m index.now x query.now above) }
+    ensures at_most { LooksInIndex K.view keeper.old keeper.new index.now (λ c m x. text_looks c m.thesauri index.now x query.now above) }
 {
     let meaning = meaning_in(alloc, keeper, index, query)?;
     match meaning {
@@ -106,8 +106,8 @@ fn contained<K: Keeper>(
 
 /// What a search finds in an index, which is of the kind that answers it: the line of a refusal of its text, or rows.
 ///
-/// Of a CONTAINS it costs the reading of the query text and of the index's preferences, and then the search of the postings. It reads
-/// no text of a row.
+/// Of a CONTAINS it costs the reading of the query text, of the index's preferences and of the thesauri that the text names, and then the
+/// search of the postings. It reads no text of a row.
 pub fn find<K: Keeper>(
     alloc: Global,
     keeper: &mut K,
@@ -115,9 +115,9 @@ pub fn find<K: Keeper>(
     search: Search<'_>,
 ) -> Result<Found, KeepFault>
     requires { (K.view keeper.old).ready }
-    ensures found { OverIndex K.view keeper.old index.now (λ m x. FindsBySearch m.tables x (held_search search.entry) result) }
+    ensures found { OverIndex K.view keeper.old index.now (λ m x. FindsBySearch m.tables m.thesauri x (held_search search.entry) result) }
     ensures reads { OnlyReads K.view keeper.old keeper.new result }
-    ensures at_most { LooksInIndex K.view keeper.old keeper.new index.now (λ m x. search_looks m index.now x (held_search search.entry)) }
+    ensures at_most { LooksInIndex K.view keeper.old keeper.new index.now (λ c m x. search_looks c m.thesauri index.now x (held_search search.entry)) }
 {
     match search {
         Search::Contains { .. } => contained(alloc, keeper, index, search.query(), search.above()),

@@ -5,6 +5,7 @@ mod finding;
 mod querying;
 mod searches;
 mod seeking;
+mod thesauri;
 
 pub use finding::{Found, find};
 pub use searches::{Search, search_in};

@@ -26,6 +26,7 @@ use Rattle.tx_prefs.specs.Rules.{AreNamed, ArePreferences, are_stopwords, prefer
 use Rattle.tx_prefs.specs.Sees.{is_kind_full}
 use Rattle.tx_prefs.specs.laws.Changes.{is_of_preferences, lexer_stands, stoplist_stands, group_stands}
 use Rattle.tx_prefs.specs.laws.Rules.{named_more, named_again}
+use Rattle.th_store.specs.laws.Changes.{thesauri_unchanged}
 use Rattle.db_state.specs.laws.ShortRows.{rows_frame}
 use Rattle.db_state.specs.States.{HasShortRows, StoreState, StandsForState, is_built, is_of_rows}
 use Rattle.db_prefs.specs.Defining.{new_changes, with_new}
@@ -70,6 +71,7 @@ module _ (c : Content) (m : StoreState) (ps : Preferences) (ws : List (Key × Op
     tables = subst (λ (f : Key → Option (List ℕ)). TablesStand f m.tables) (sym (at_view ws c)) (tables_frame is_of_preferences ws (at c) m.tables of tables_preferences stands.tables);
     indexes = subst (λ (f : Key → Option (List ℕ)). IndexesStand f m.tables m.indexes) (sym (at_view ws c)) (indexes_frame kinds context_alone is_of_preferences ws (at c) m.tables m.indexes of indexes_preferences stands.indexes);
     preferences = subst (λ (f : Key → Option (List ℕ)). PreferencesStand f ps) (sym (at_view ws c)) stand;
+    thesauri = thesauri_unchanged is_of_preferences ws c m.thesauri of refl refl stands.thesauri;
     short_rows = subst HasShortRows (sym (at_view ws c)) (rows_frame is_of_preferences ws (at c) of rows_preferences stands.short_rows);
     state = record {
       tables = stands.state.tables;
@@ -77,6 +79,7 @@ module _ (c : Content) (m : StoreState) (ps : Preferences) (ws : List (Key × Op
       views = stands.state.views;
       few = stands.state.few;
       preferences = rules;
+      thesauri = stands.state.thesauri;
     };
   }
 

@@ -1,5 +1,5 @@
 -- The plans of what is given to a preference, a stoplist or a section group.
-use Rattle.std.proofs.Common.{◌≡◌, ℕ, ◌<◌, ◌≤◌, ◌^◌, Bool, true, false, List, [], ◌∷◌, ◌++◌, length, Option, Some, None, refl, sym, ap, subst, ◌∙◌, arith, inr, length-append}
+use Rattle.std.proofs.Common.{◌≡◌, ℕ, ◌<◌, ◌≤◌, ◌^◌, Bool, true, false, List, [], ◌∷◌, ◌++◌, length, Option, Some, None, refl, sym, ap, subst, ◌∙◌, arith, inl, inr, length-append}
 use Rattle.std.specs.Prelude.{◌&&◌, ◌||◌, not, nat_le, nat_lt, is_none, is_some, MatchOption, IfSome}
 use Rattle.std.specs.List.{list_all}
 use Rattle.std.specs.FinMap.{get}
@@ -7,8 +7,7 @@ use Rattle.std.specs.Str.{is_utf8}
 use Rattle.std.proofs.lemmas.Bool.{and_parts, and_from, or_parts, leb-true, leb-false, lt-ltb, not-true}
 use Rattle.std.proofs.lemmas.List.Folds.{list_all-append}
 use Rattle.ct_base.specs.Names.{IsName, is_kept}
-use Rattle.ct_keep.specs.Content.{Content, after, value_limit}
-use Rattle.ct_entry.specs.Keys.{Key}
+use Rattle.ct_keep.specs.Content.{Content, value_limit}
 use Rattle.ct_entry.specs.Changes.{spell}
 use Rattle.ct_entry.specs.Shapes.{AreShaped}
 use Rattle.ct_entry.specs.laws.Shapes.{are_shaped_weaker}
@@ -30,12 +29,12 @@ use Rattle.tx_prefs.specs.laws.Keeps.{stopwords_kept, groups_kept}
 use Rattle.tx_prefs.specs.laws.Lengths.{settings_short, words_short}
 use Rattle.db_cond.specs.Faults.{BadValue, LimitReached}
 use Rattle.db_state.specs.States.{StoreState, StandsForState}
-use Rattle.db_state.specs.Effects.{Effect, Does}
 use Rattle.db_state.specs.Shapes.{AreStoreChanges, HasStoreValue}
 use Rattle.db_state.specs.Plans.{IsPlan}
 use Rattle.db_state.specs.Lines.{call_done}
 use Rattle.db_state.specs.declared.plans.Plan.TheVariants.{Done}
 use Rattle.db_state.specs.laws.Chains.{passes}
+use Rattle.db_state.specs.laws.Serving.{plan_of}
 use Rattle.db_prefs.specs.Defining.{attribute_set, has_stopword_length, is_full_group, is_good_section, new_changes, new_made, section_added, special_added, stopword_added, with_section, with_special}
 use Rattle.db_prefs.specs.declared.special_sections.Special.{Special}
 use Rattle.db_prefs.specs.declared.special_sections.Special.TheVariants.{Sentence, Paragraph}
@@ -43,7 +42,7 @@ use Rattle.db_prefs.proofs.NewPreferences.{lexer_again, stoplist_again, group_ag
 
 -- changes of preferences are ones that a store takes
 pub of_preferences : (changes : List (List ℕ × Option (List ℕ))) → AreShaped HasPrefValue changes → AreStoreChanges changes
-of_preferences changes are = are_shaped_weaker HasPrefValue HasStoreValue (λ k value has. inr (inr has)) changes are
+of_preferences changes are = are_shaped_weaker HasPrefValue HasStoreValue (λ k value has. inr (inr (inl has))) changes are
 
 -- a batch that was found
 pub found_some : {X : Type 0} (found : Option X) (x : X) (P : X → Type 0) → found ≡ Some x → IfSome found P → P x
@@ -74,11 +73,6 @@ new_stoplist name words found none made =
 -- the batch that was found is the one that was made
 pub same_batch : {X : Type 0} (found : Option X) (batch made : X) → found ≡ Some batch → found ≡ Some made → batch ≡ made
 same_batch found batch made is has = let e : Some batch ≡ Some made = sym is ∙ has in cc
-
--- the plan of the changes by which a content stands for a state
-plan_of : (effect : Effect) (c : Content) (n : StoreState) (ws : List (Key × Option (List ℕ))) (batch : List (List ℕ × Option (List ℕ)))
-    → effect ≡ Does n call_done → batch ≡ spell ws → StandsForState (after (spell ws) c) n → IsPlan effect call_done c (Done batch)
-plan_of effect c n ws batch does is stands = (n, does, subst (λ (b : List (List ℕ × Option (List ℕ))). StandsForState (after b c) n) (sym is) stands)
 
 module _ (c : Content) (m : StoreState) (name : List ℕ) (batch : List (List ℕ × Option (List ℕ))) (stands : StandsForState c m) where
   -- something new

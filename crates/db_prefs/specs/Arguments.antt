@@ -5,7 +5,6 @@ use Rattle.std.specs.Char.{to_ascii_lowercase}
 use Rattle.st_parse.specs.declared.statements.Arg.{Arg}
 use Rattle.st_parse.specs.declared.statements.Arg.TheVariants.{Text, Number, Flag}
 use Rattle.st_parse.specs.declared.statements.Whole.TheVariants.{Fits}
-use Rattle.tx_settings.specs.Attributes.{is_spelt}
 use Rattle.db_call.specs.Arguments.{argument_text}
 
 -- the text at a place of the arguments in ASCII lower case, as tags are kept
@@ -22,11 +21,6 @@ abbrev pub is_flagged : List Arg → Bool
 is_flagged (a ∷ b ∷ c ∷ Flag d ∷ args) = d
 is_flagged args = false
 
--- whether there is a text, and it is this word, which is given in lower case, in any ASCII case
-abbrev pub spells_word : List ℕ → Option (List ℕ) → Bool
-spells_word word None = false
-spells_word word (Some text) = is_spelt word text
-
 -- computed examples
 a_tag : lower_at 1 (Text (codes "g") ∷ Text (codes "H1") ∷ []) ≡ Some (codes "h1")
 a_tag = refl
@@ -39,6 +33,3 @@ a_visible_field = refl
 
 no_flag : are_texts_and_flag (Text (codes "g") ∷ Text (codes "f") ∷ Text (codes "t") ∷ Text (codes "TRUE") ∷ []) ≡ false
 no_flag = refl
-
-in_any_case : spells_word (codes "basic_lexer") (Some (codes "Basic_Lexer")) ≡ true
-in_any_case = refl

@@ -1,5 +1,5 @@
 -- What the procedures do that define lexer preferences, stoplists and section groups.
-use Rattle.std.specs.Prelude.{ℕ, ◌≡◌, Bool, true, false, not, ◌&&◌, ◌||◌, nat_le, List, [], ◌∷◌, ◌++◌, length, is_some, is_none, Option, Some, None, Result, IfOk, codes, refl}
+use Rattle.std.specs.Prelude.{ℕ, ◌≡◌, Bool, true, false, not, ◌&&◌, ◌||◌, nat_le, List, [], ◌∷◌, ◌++◌, length, is_some, is_none, Option, Some, None, Result, codes, refl}
 use Rattle.std.specs.Bool.{if◌then◌else◌}
 use Rattle.std.specs.Option.{option_and_then}
 use Rattle.std.specs.FinMap.{get, get-empty}
@@ -10,9 +10,7 @@ use Rattle.st_parse.specs.declared.statements.Arg.{Arg}
 use Rattle.st_parse.specs.declared.statements.Arg.TheVariants.{Text, Flag}
 use Rattle.st_parse.specs.declared.procedures.Definition.{Definition}
 use Rattle.st_parse.specs.declared.procedures.Definition.TheVariants.{CreatePreference, SetAttribute, CreateStoplist, AddStopword, CreateSectionGroup, AddZoneSection, AddFieldSection, AddSpecialSection}
-use Rattle.ct_keep.specs.Content.{Content}
 use Rattle.ct_entry.specs.Keys.{Key}
-use Rattle.ct_entry.specs.Maps.{Names}
 use Rattle.tx_stop.specs.StopKeys.{stop_limit}
 use Rattle.tx_tags.specs.declared.groups.SectionKind.{SectionKind}
 use Rattle.tx_tags.specs.declared.groups.SectionKind.TheVariants.{Zone, Field, VisibleField}
@@ -27,44 +25,20 @@ use Rattle.tx_prefs.specs.Promises.{kind_count}
 use Rattle.tx_prefs.specs.Spelling.{lexer_changes, stoplist_changes, group_changes}
 use Rattle.tx_prefs.specs.Sees.{has_named, is_kind_full}
 use Rattle.db_cond.specs.Faults.{UnknownName, ExistsAlready, WrongValues, BadValue, LimitReached}
-use Rattle.db_call.specs.Arguments.{argument_text, argument_name, are_texts}
-use Rattle.db_state.specs.States.{StoreState, StandsForState, empty_state}
+use Rattle.db_call.specs.Arguments.{argument_text, argument_name, are_texts, spells_word}
+use Rattle.db_state.specs.States.{StoreState, empty_state}
 use Rattle.db_state.specs.Effects.{Effect, Refused, Does, refuse, refuse_by, with_found}
 use Rattle.db_state.specs.Lines.{call_done}
-use Rattle.db_state.specs.Plans.{IsPlan}
+use Rattle.db_state.specs.Plans.{PlansWhere}
 use Rattle.db_state.specs.declared.plans.Plan.{Plan}
+use Rattle.db_call.specs.Checks.{check, get_named, missing_name, of_both, taken_name}
 use Rattle.db_prefs.specs.declared.special_sections.Special.{Special}
 use Rattle.db_prefs.specs.declared.special_sections.Special.TheVariants.{Sentence, Paragraph}
-use Rattle.db_prefs.specs.Arguments.{lower_at, are_texts_and_flag, is_flagged, spells_word}
+use Rattle.db_prefs.specs.Arguments.{lower_at, are_texts_and_flag, is_flagged}
 
 -- the preferences are these now
 abbrev pub with_preferences : StoreState → Preferences → Effect
 with_preferences m ps = Does (record m { preferences = ps }) call_done
-
--- what a name has, if it is there
-abbrev pub get_named : {X : Type 0} → Names X → Option (List ℕ) → Option X
-get_named xs name = option_and_then (get xs) name
-
--- the name, where something has it, and where nothing has it
-abbrev pub taken_name : Bool → Option (List ℕ) → Option (List ℕ)
-taken_name there name = if there then name else None
-
-abbrev pub missing_name : Bool → Option (List ℕ) → Option (List ℕ)
-missing_name there name = if there then None else name
-
--- The checks that come first, in their order: of a name that nothing has, of what exists already, and of the number and kinds of the arguments.
-abbrev pub check : Option (List ℕ) → Option (List ℕ) → Bool → Effect → Effect
-check unknown taken shaped done =
-    refuse_by unknown UnknownName
-    (refuse_by taken ExistsAlready
-    (refuse (not shaped) WrongValues
-    done))
-
--- What follows of two things that the first checks have let pass. Where one is missing, a name is spelt as none, which is a bad value.
-abbrev pub of_both : {X Y : Type 0} → Option X → Option Y → (X → Y → Effect) → Effect
-of_both None y effect = Refused BadValue
-of_both (Some x) None effect = Refused BadValue
-of_both (Some x) (Some y) effect = effect x y
 
 -- ---- something new
 
@@ -249,10 +223,6 @@ abbrev pub define : StoreState → Definition → List Arg → Effect
 define m procedure args = define_by m procedure (argument_name 0 args) (argument_name 1 args) (lower_at 2 args) args
 
 -- ---- what its functions give
-
--- The call gave the plan of this effect over each state of which this holds, unless it failed.
-abbrev pub PlansWhere : {E : Type 0} → Result Plan E → (StoreState → Type 0) → (StoreState → Effect) → Type 0
-PlansWhere result holds effect = (m : StoreState) (c : Content) → StandsForState c m → holds m → IfOk result (IsPlan (effect m) call_done c)
 
 -- The call gave the plan that adds the word to the stoplist of this name, over each state where it has these words.
 abbrev pub PlansStopword : {E : Type 0} → Result Plan E → List ℕ → List (List ℕ) → List ℕ → Type 0

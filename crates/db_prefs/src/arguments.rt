@@ -3,7 +3,7 @@
 ghost use Rattle.std.specs.Prelude.{◌≡◌, map, IfOk};
 ghost use Rattle.std.specs.Char.{to_ascii_lowercase};
 ghost use Rattle.std.specs.Option.{option_map};
-ghost use Rattle.db_prefs.specs.Arguments.{are_texts_and_flag as texts_and_flag, is_flagged as flagged, spells_word as is_this_word, lower_at as lower_there};
+ghost use Rattle.db_prefs.specs.Arguments.{are_texts_and_flag as texts_and_flag, is_flagged as flagged, lower_at as lower_there};
 
 use ct_base::{Memory, Text};
 use db_call::text_at;
@@ -45,16 +45,5 @@ pub(crate) fn is_flagged(args: &[Arg]) -> bool
     match args {
         [_, _, _, Arg::Flag(flag), ..] => *flag,
         _ => false,
-    }
-}
-
-/// Whether there is a text, and it is this word, in any ASCII case.
-pub(crate) fn spells_word(text: Option<&str>, word: &str) -> bool
-    requires lower { map to_ascii_lowercase word.now ≡ word.now }
-    ensures { result ≡ is_this_word word.now (option_map (λ t. t.now) text.entry) }
-{
-    match text {
-        Some(text) => text.eq_ignore_ascii_case(word),
-        None => false,
     }
 }

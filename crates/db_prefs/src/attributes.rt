@@ -8,14 +8,13 @@ ghost use Rattle.ct_keep.specs.KeeperViews.{OnlyReads};
 ghost use Rattle.tx_settings.specs.Attributes.{takes_value};
 ghost use Rattle.tx_settings.specs.PrefsBytes.{are_settings, is_short};
 ghost use Rattle.db_state.specs.Lines.{call_done};
-ghost use Rattle.db_state.specs.Plans.{IsStorePlan, Plans};
-ghost use Rattle.db_prefs.specs.Defining.{PlansWhere, attribute_set, set_attribute, setting_of as setting_named};
+ghost use Rattle.db_state.specs.Plans.{IsStorePlan, Plans, PlansWhere};
+ghost use Rattle.db_prefs.specs.Defining.{attribute_set, set_attribute, setting_of as setting_named};
 
-use crate::checks::{first_fault, missing_name};
 use crate::lookups::settings_of;
 use ct_base::{Memory, Name, Text};
 use ct_keep::{KeepFault, Keeper};
-use db_call::{are_texts, text_at};
+use db_call::{are_texts, first_fault, missing_name, text_at};
 use db_cond::Fault;
 use db_state::Plan;
 use st_parse::Arg;

@@ -10,15 +10,13 @@ ghost use Rattle.ct_entry.specs.Shapes.{AreShaped};
 ghost use Rattle.tx_prefs.specs.Sees.{is_kind_full};
 ghost use Rattle.tx_prefs.specs.Shapes.{HasPrefValue};
 ghost use Rattle.db_state.specs.Lines.{call_done};
-ghost use Rattle.db_state.specs.Plans.{IsStorePlan, Plans};
-ghost use Rattle.db_prefs.specs.Defining.{PlansWhere, are_new_args as new_args, create, is_null_type as null_type, is_type as type_of_kind, new_changes, new_made};
+ghost use Rattle.db_state.specs.Plans.{IsStorePlan, Plans, PlansWhere};
+ghost use Rattle.db_prefs.specs.Defining.{are_new_args as new_args, create, is_null_type as null_type, is_type as type_of_kind, new_changes, new_made};
 
-use crate::arguments::spells_word;
-use crate::checks::{first_fault, taken_name};
 use crate::lookups::{is_full, is_there};
 use ct_base::{Memory, Name};
 use ct_keep::{Batch, KeepFault, Keeper};
-use db_call::{are_texts, text_at};
+use db_call::{are_texts, first_fault, spells_word, taken_name, text_at};
 use db_cond::Fault;
 use db_state::Plan;
 use st_parse::Arg;

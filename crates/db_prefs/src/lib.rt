@@ -3,7 +3,6 @@
 
 mod arguments;
 mod attributes;
-mod checks;
 mod creating;
 mod defining;
 mod lookups;

@@ -7,7 +7,8 @@ ghost use Rattle.ct_keep.specs.KeeperViews.{OnlyReads};
 ghost use Rattle.tx_settings.specs.PrefsBytes.{are_settings, are_words};
 ghost use Rattle.tx_prefs.specs.Sees.{is_kind_full};
 ghost use Rattle.db_state.specs.States.{Sees};
-ghost use Rattle.db_prefs.specs.Defining.{get_named, is_there as is_named};
+ghost use Rattle.db_prefs.specs.Defining.{is_there as is_named};
+ghost use Rattle.db_call.specs.Checks.{get_named};
 
 use ct_base::{Name, Text};
 use ct_keep::{KeepFault, Keeper};

@@ -10,10 +10,10 @@ ghost use Rattle.db_state.specs.Lines.{call_done};
 ghost use Rattle.db_state.specs.Plans.{IsStorePlan, Plans};
 ghost use Rattle.db_prefs.specs.Defining.{PlansSection, add_section, is_full_group as group_full, is_good_section as good_section, is_same_kind as same_kind, of_other_kind as name_of_other_kind, taken_section as section_taken, taken_tag as tag_taken};
 
-use crate::checks::{first_fault, missing_name};
 use crate::lookups::group_of;
 use ct_base::{Memory, Name, Text};
 use ct_keep::{KeepFault, Keeper};
+use db_call::{first_fault, missing_name};
 use db_cond::Fault;
 use db_state::Plan;
 use std::alloc::Global;

@@ -6,15 +6,13 @@ ghost use Rattle.std.specs.FinMap.{get};
 ghost use Rattle.std.specs.Option.{option_map};
 ghost use Rattle.ct_keep.specs.KeeperViews.{OnlyReads};
 ghost use Rattle.db_state.specs.Lines.{call_done};
-ghost use Rattle.db_state.specs.Plans.{IsStorePlan, Plans};
-ghost use Rattle.db_prefs.specs.Defining.{PlansWhere, add_special_section, has_special as has_it, special_added, special_name, special_of as special_named, taken_special as special_taken, with_special as with_it};
+ghost use Rattle.db_state.specs.Plans.{IsStorePlan, Plans, PlansWhere};
+ghost use Rattle.db_prefs.specs.Defining.{add_special_section, has_special as has_it, special_added, special_name, special_of as special_named, taken_special as special_taken, with_special as with_it};
 
-use crate::arguments::spells_word;
-use crate::checks::{first_fault, missing_name};
 use crate::lookups::group_of;
 use ct_base::{Memory, Name};
 use ct_keep::{KeepFault, Keeper};
-use db_call::{are_texts, text_at};
+use db_call::{are_texts, first_fault, missing_name, spells_word, text_at};
 use db_cond::Fault;
 use db_state::Plan;
 use st_parse::Arg;

@@ -10,11 +10,10 @@ ghost use Rattle.db_state.specs.Lines.{call_done};
 ghost use Rattle.db_state.specs.Plans.{IsStorePlan, Plans};
 ghost use Rattle.db_prefs.specs.Defining.{PlansStopword, add_stopword, among, has_stopword_length as stopword_length};
 
-use crate::checks::{first_fault, missing_name};
 use crate::lookups::words_of;
 use ct_base::{Memory, Name, Text};
 use ct_keep::{KeepFault, Keeper};
-use db_call::{are_texts, text_at};
+use db_call::{are_texts, first_fault, missing_name, text_at};
 use db_cond::Fault;
 use db_state::Plan;
 use st_parse::Arg;

@@ -61,8 +61,8 @@ module _ (p : Hit → Bool) (found : List Hit) where
 -- ---- with a search
 
 pub searched_are : (m : StoreState) (t : List ℕ) (x : Table) (s : Search) (conds : List Cond) (y : Index) → index_of_search m t x.columns s ≡ Some y
-    → filter (λ h. key_meets x conds h.0) (search_rows m.tables y s) ≡ hits m t x (Some s) conds
-searched_are m t x s conds y needed = sym (ap (λ (i : Option Index). filter (λ (h : ℤ × ℕ). key_meets x conds h.0) (found_in m.tables i s)) needed)
+    → filter (λ h. key_meets x conds h.0) (search_rows m.tables m.thesauri y s) ≡ hits m t x (Some s) conds
+searched_are m t x s conds y needed = sym (ap (λ (i : Option Index). filter (λ (h : ℤ × ℕ). key_meets x conds h.0) (found_in m.tables m.thesauri i s)) needed)
 
 pub met_are : (x : Table) (conds : List Cond) (all met : List Hit) (found : List (ℤ × ℕ)) → hit_rows all ≡ found → met ≡ filter (λ h. key_meets x conds h.key.0) all
     → hit_rows met ≡ filter (λ h. key_meets x conds h.0) found

@@ -1,5 +1,5 @@
 -- What a SELECT with a search does where its index is there, and its values and numbers pass.
-use Rattle.std.proofs.Common.{◌≡◌, ◌≤◌, Bool, List, ℕ, length, Option, Some, None, Vec, sym, ap, subst, ◌∙◌}
+use Rattle.std.proofs.Common.{◌≡◌, ◌≤◌, Bool, List, ℕ, length, Option, Some, None, Vec, ap, subst, ◌∙◌}
 use Rattle.std.specs.Prelude.{not, ◌||◌}
 use Rattle.std.specs.FinMap.{get}
 use Rattle.std.specs.declared.alloc.Global.{Global}
@@ -12,7 +12,7 @@ use Rattle.tb_table.specs.declared.columns.Column.{Column}
 use Rattle.tb_table.specs.Rules.{AreTables}
 use Rattle.tb_table.specs.Tables.{Table}
 use Rattle.db_cond.specs.Faults.{Refusal, refusal_line}
-use Rattle.db_state.specs.Effects.{Does, Effect, Refused, refuse_by}
+use Rattle.db_state.specs.Effects.{Does, Effect, refuse_by}
 use Rattle.db_state.specs.States.{StoreState}
 use Rattle.db_rows.specs.Checking.{fit_columns, has_beyond}
 use Rattle.db_find.specs.Finding.{search_refusal}
@@ -34,7 +34,7 @@ pub record IsKnownSearch (m : StoreState) (t : List ℕ) (x : Table) (list : Sel
   pub there : get m.indexes i ≡ Some index
   pub here : index_of_search m t x.columns s ≡ Some index
   pub named : named_index m t x.columns s ≡ Some (i, index)
-  pub effect : select_rows m t x list (Some s) conds ≡ refuse_by (search_refusal index s) (λ refusal. refusal) (Does m (rows_reply m.tables t x.columns list (hits m t x (Some s) conds)))
+  pub effect : select_rows m t x list (Some s) conds ≡ refuse_by (search_refusal m.thesauri index s) (λ refusal. refusal) (Does m (rows_reply m.tables t x.columns list (hits m t x (Some s) conds)))
 
 module _ (m : StoreState) (t : List ℕ) (x : Table) (list : SelectList) (s : Search) (conds : List Cond) (columns : List Column) (same : x.columns ≡ columns) where
   -- the index that was found, and the answers of the checks
@@ -52,17 +52,17 @@ module _ (m : StoreState) (t : List ℕ) (x : Table) (list : SelectList) (s : Se
         named = ap (λ (cs : List Column). named_index m t cs s) same ∙ needed_named m t columns s i indexes needed;
         effect =
             by_query m t x list (Some s) conds columns same w o (wrong ∙ ap (λ (l : Option Whole). not (fit_labels list l) || not (fit_columns columns conds)) label_is) out (has_needed m t x s needed.0 here) passes
-            (search_refusal needed.0 s) (by_index m t x s needed.0 here);
+            (search_refusal m.thesauri needed.0 s) (by_index m t x s needed.0 here);
       }
 
 module _ (m : StoreState) (t : List ℕ) (x : Table) (list : SelectList) (s : Search) (conds : List Cond) (i : List ℕ) (known : IsKnownSearch m t x list s conds i) where
   -- where its query is refused
-  pub refused_search : (refusal : Refusal) (line : Vec ℕ Global) → search_refusal known.index s ≡ Some refusal → line.items ≡ refusal_line refusal → Selects m t x list (Some s) conds (RefusedFound line)
+  pub refused_search : (refusal : Refusal) (line : Vec ℕ Global) → search_refusal m.thesauri known.index s ≡ Some refusal → line.items ≡ refusal_line refusal → Selects m t x list (Some s) conds (RefusedFound line)
   refused_search refusal line is says = (refusal, (known.effect ∙ ap (λ (r : Option Refusal). refuse_by r (λ refusal. refusal) (Does m (rows_reply m.tables t x.columns list (hits m t x (Some s) conds)))) is, says))
 
   -- and where it isn't
-  pub not_refused : search_refusal known.index s ≡ None → select_rows m t x list (Some s) conds ≡ Does m (rows_reply m.tables t x.columns list (hits m t x (Some s) conds))
+  pub not_refused : search_refusal m.thesauri known.index s ≡ None → select_rows m t x list (Some s) conds ≡ Does m (rows_reply m.tables t x.columns list (hits m t x (Some s) conds))
   not_refused none = known.effect ∙ ap (λ (r : Option Refusal). refuse_by r (λ refusal. refusal) (Does m (rows_reply m.tables t x.columns list (hits m t x (Some s) conds)))) none
 
-  pub passed_search : search_refusal known.index s ≡ None → (found : Vec FoundRow Global) → hit_rows (hits_of found.items) ≡ hits m t x (Some s) conds → Selects m t x list (Some s) conds (Rows found)
+  pub passed_search : search_refusal m.thesauri known.index s ≡ None → (found : Vec FoundRow Global) → hit_rows (hits_of found.items) ≡ hits m t x (Some s) conds → Selects m t x list (Some s) conds (Rows found)
   passed_search none found are = (not_refused none, are)

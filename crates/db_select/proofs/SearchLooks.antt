@@ -14,6 +14,7 @@ use Rattle.tb_table.specs.declared.columns.Column.{Column}
 use Rattle.tb_table.specs.Tables.{Table}
 use Rattle.ix_search.specs.declared.hits.Hit.{Hit}
 use Rattle.ix_search.specs.Hits.{hit_rows}
+use Rattle.ix_search.specs.Looking.{QueriesLookFew}
 use Rattle.ix_indexes.specs.Indexes.{Index}
 use Rattle.db_cond.specs.Faults.{Refusal}
 use Rattle.db_state.specs.States.{StoreState}
@@ -44,16 +45,16 @@ module _ (c : Content) (m : StoreState) (t : List ℕ) (x : Table) (list : Selec
       let none = indexes_texts c in
       record { texts = omega (arith, none, rises.texts); rows = omega (arith, rises.rows); rules = omega (arith, rises.rules) }
 
-  module _ (i : List ℕ) (y : Index) (named : named_index m t x.columns s ≡ Some (i, y)) where
-    looks_are : looks_in c (named_index m t x.columns s) s ≡ search_looks c i y s
-    looks_are = ap (λ (o : Option (List ℕ × Index)). looks_in c o s) named
+  module _ (looking : QueriesLookFew) (i : List ℕ) (y : Index) (named : named_index m t x.columns s ≡ Some (i, y)) where
+    looks_are : looks_in c m.thesauri (named_index m t x.columns s) s ≡ search_looks c m.thesauri i y s
+    looks_are = ap (λ (o : Option (List ℕ × Index)). looks_in c m.thesauri o s) named
 
     -- where it is left behind the search, by what that refuses
-    by_refusal : (lines : List ℕ) (a b d : Counts) (refused : Option Refusal) → search_refusal y s ≡ refused → RisesBy (scan_looks (code kind.Indexes ∷ []) c) a b → RisesBy (search_looks c i y s) b d
+    by_refusal : (lines : List ℕ) (a b d : Counts) (refused : Option Refusal) → search_refusal m.thesauri y s ≡ refused → RisesBy (scan_looks (code kind.Indexes ∷ []) c) a b → RisesBy (search_looks c m.thesauri i y s) b d
         → RisesLeaving (looks_by (refuse_by refused (λ r. r) (Does m lines)) (index_looks c) (found_looks c m t x list s conds)) 0 a d
     by_refusal lines a b d None is first second =
         let none = indexes_texts c in
-        let no_text = in_texts c (Some (i, y)) s in
+        let no_text = in_texts looking c m.thesauri (Some (i, y)) s in
         let rows = ap (λ (k : Counts). k.rows) looks_are in
         let rules = ap (λ (k : Counts). k.rules) looks_are in
         record {
@@ -63,27 +64,27 @@ module _ (c : Content) (m : StoreState) (t : List ℕ) (x : Table) (list : Selec
         }
     by_refusal lines a b d (Some refusal) is first second =
         let none = indexes_texts c in
-        let still : RisesBy no_looks b d = subst (λ (k : Counts). RisesBy k b d) (refused_looks c i y s refusal is) second in
+        let still : RisesBy no_looks b d = subst (λ (k : Counts). RisesBy k b d) (refused_looks c m.thesauri i y s refusal is) second in
         record {
           texts = omega (arith, none, first.texts, still.texts);
           rows = omega (arith, first.rows, still.rows);
           rules = omega (arith, first.rules, still.rules);
         }
 
-    pub search_alone : (effect : Effect) (lines : List ℕ) (a b d : Counts) → effect ≡ refuse_by (search_refusal y s) (λ r. r) (Does m lines)
-        → RisesBy (scan_looks (code kind.Indexes ∷ []) c) a b → RisesBy (search_looks c i y s) b d → RisesLeaving (looks_by effect (index_looks c) (found_looks c m t x list s conds)) 0 a d
+    pub search_alone : (effect : Effect) (lines : List ℕ) (a b d : Counts) → effect ≡ refuse_by (search_refusal m.thesauri y s) (λ r. r) (Does m lines)
+        → RisesBy (scan_looks (code kind.Indexes ∷ []) c) a b → RisesBy (search_looks c m.thesauri i y s) b d → RisesLeaving (looks_by effect (index_looks c) (found_looks c m t x list s conds)) 0 a d
     search_alone effect lines a b d is first second =
         subst (λ (e : Effect). RisesLeaving (looks_by e (index_looks c) (found_looks c m t x list s conds)) 0 a d) (sym is)
-        (by_refusal lines a b d (search_refusal y s) refl first second)
+        (by_refusal lines a b d (search_refusal m.thesauri y s) refl first second)
 
     -- where rows were found, of which so many texts are left
     pub rows_met : (effect : Effect) (lines : List ℕ) (columns : List Column) (found : List Hit) (left given : ℕ) (a b d e : Counts) → effect ≡ Does m lines → x.columns ≡ columns
         → hit_rows found ≡ found_rows m t x (Some s) → left ≡ given
-        → RisesBy (scan_looks (code kind.Indexes ∷ []) c) a b → RisesBy (search_looks c i y s) b d → RisesLeaving (texts_alone (length found * length (read_texts list conds columns))) given d e
+        → RisesBy (scan_looks (code kind.Indexes ∷ []) c) a b → RisesBy (search_looks c m.thesauri i y s) b d → RisesLeaving (texts_alone (length found * length (read_texts list conds columns))) given d e
         → RisesLeaving (looks_by effect (index_looks c) (found_looks c m t x list s conds)) left a e
     rows_met effect lines columns found left given a b d e is same counted given_is first second third =
         let none = indexes_texts c in
-        let no_text = in_texts c (Some (i, y)) s in
+        let no_text = in_texts looking c m.thesauri (Some (i, y)) s in
         let rows = ap (λ (k : Counts). k.rows) looks_are in
         let rules = ap (λ (k : Counts). k.rules) looks_are in
         let count : length found ≡ length (found_rows m t x (Some s)) = sym (length-map found (λ h. (h.key.0, h.score))) ∙ ap length counted in

@@ -26,7 +26,7 @@ use Rattle.db_select.specs.declared.finds.FoundRow.{FoundRow}
 -- the score 0, for which no SCORE asks.
 abbrev pub found_rows : StoreState → List ℕ → Table → Option Search → List (ℤ × ℕ)
 found_rows m t x None = map {B = ℤ × ℕ} (λ e. (e.0, 0)) (entries x.rows)
-found_rows m t x (Some s) = found_in m.tables (index_of_search m t x.columns s) s
+found_rows m t x (Some s) = found_in m.tables m.thesauri (index_of_search m t x.columns s) s
 
 -- of them those that meet all conditions
 abbrev pub hits : StoreState → List ℕ → Table → Option Search → List Cond → List (ℤ × ℕ)

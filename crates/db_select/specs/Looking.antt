@@ -1,5 +1,5 @@
--- How much a SELECT with a search looks up.
-use Rattle.std.specs.Prelude.{ℕ, ◌*◌, ◌≡◌, ◌||◌, Bool, true, false, List, [], ◌∷◌, length, Option, Some, None, Result, codes, refl}
+-- How much a SELECT with a search looks up, and how much it may.
+use Rattle.std.specs.Prelude.{ℕ, pos, ◌+◌, ◌*◌, ◌≡◌, ◌||◌, Bool, true, false, List, [], ◌∷◌, length, Option, Some, None, Result, codes, refl}
 use Rattle.std.specs.List.{list_any}
 use Rattle.std.specs.FinMap.{get}
 use Rattle.ct_keep.specs.Content.{Content}
@@ -9,25 +9,32 @@ use Rattle.ct_keep.specs.declared.keepers.KeepFault.{KeepFault}
 use Rattle.ct_entry.specs.declared.kinds.Kind.TheVariants as kind
 use Rattle.ct_entry.specs.Keys.{same_list}
 use Rattle.ct_entry.specs.Kinds.{code}
+use Rattle.st_parse.specs.declared.statements.Compare.TheVariants.{Equal}
 use Rattle.st_parse.specs.declared.statements.Cond.{Cond}
+use Rattle.st_parse.specs.declared.statements.Cond.TheVariants.{Compare}
+use Rattle.st_parse.specs.declared.statements.Operand.TheVariants.{Text as TextOperand}
 use Rattle.st_parse.specs.declared.statements.Item.{Item}
 use Rattle.st_parse.specs.declared.statements.Item.TheVariants.{Column as ColumnItem, Score as ScoreItem}
 use Rattle.st_parse.specs.declared.statements.Pred.{Pred}
 use Rattle.st_parse.specs.declared.statements.SelectList.{SelectList}
 use Rattle.st_parse.specs.declared.statements.SelectList.TheVariants.{Star, CountAll, Items}
+use Rattle.st_parse.specs.declared.statements.Whole.TheVariants.{Fits}
 use Rattle.tb_table.specs.declared.columns.Column.{Column}
 use Rattle.tb_table.specs.Tables.{Table, docs_columns}
 use Rattle.db_cond.specs.Faults.{WrongValues}
+use Rattle.db_looks.specs.Allowances.{Allowance, CountsWithin, unbounded}
 use Rattle.db_state.specs.States.{StoreState, OverNamedTable, OverStates}
 use Rattle.db_state.specs.Effects.{Effect, Does, Refused}
 use Rattle.db_rows.specs.Checking.{cond_columns}
+use Rattle.db_rows.specs.Sources.{of_columns}
 use Rattle.db_rows.specs.Texts.{RisesLeaving, is_named, left_by, passing_text_places}
-use Rattle.db_find.specs.Looking.{looks_in}
-use Rattle.db_find.specs.Searches.{Search, search_in}
+use Rattle.db_find.specs.Looking.{allowance_in, looks_in}
+use Rattle.db_find.specs.Searches.{Search, Contains, search_in}
 use Rattle.db_find.specs.Seeking.{named_index}
 use Rattle.db_select.specs.Hits.{found_rows}
 use Rattle.db_select.specs.Predicates.{below_seven, conds_in}
 use Rattle.db_select.specs.Selecting.{select_rows, selected_left}
+use Rattle.db_select.specs.Statements.{select_statement}
 use Rattle.db_select.specs.declared.finds.Selected.{Selected}
 
 -- ---- the texts of a row
@@ -53,7 +60,7 @@ shown_texts list columns = passing_text_places (shows list) columns
 abbrev pub read_texts : SelectList → List Cond → List Column → List ℕ
 read_texts list conds columns = passing_text_places (reads list conds) columns
 
--- ---- what a SELECT with a search may look up
+-- ---- what a SELECT with a search looks up at most
 
 -- it looks for the index among the entries of all indexes, and looks up no text for that
 abbrev pub index_looks : Content → Counts
@@ -62,7 +69,7 @@ index_looks c = record (scan_looks (code kind.Indexes ∷ []) c) { texts = 0 }
 -- where it isn't refused: so many texts for each row that the search finds, and the rows of postings that the search looks at
 abbrev pub found_looks : Content → StoreState → List ℕ → Table → SelectList → Search → List Cond → Counts
 found_looks c m t x list s conds =
-    record (plus (index_looks c) (looks_in c (named_index m t x.columns s) s)) { texts = length (found_rows m t x (Some s)) * length (read_texts list conds x.columns) }
+    record (plus (index_looks c) (looks_in c m.thesauri (named_index m t x.columns s) s)) { texts = length (found_rows m t x (Some s)) * length (read_texts list conds x.columns) }
 
 abbrev pub table_looks : Content → StoreState → List ℕ → Option Table → SelectList → Search → List Cond → Counts
 table_looks c m t None list s conds = no_looks
@@ -73,7 +80,7 @@ abbrev pub looks_by : Effect → Counts → Counts → Counts
 looks_by (Refused refusal) least most = least
 looks_by (Does m reply) least most = most
 
--- WHAT A SELECT WITH A SEARCH MAY LOOK UP, where this is what it does
+-- WHAT A SELECT WITH A SEARCH LOOKS UP AT MOST, where this is what it does
 abbrev pub select_looks : Effect → Content → StoreState → SelectList → List ℕ → List Pred → Search → Counts
 select_looks effect c m list t preds s = looks_by effect (index_looks c) (table_looks c m t (get m.tables t) list s (conds_in preds))
 
@@ -99,24 +106,70 @@ LooksFewOver view old new t columns list search conds left =
 abbrev pub FindsFew : {K : Type 0} → (K → KeeperView) → K → K → List ℕ → List Column → SelectList → Option Search → List Cond → Result Selected KeepFault → Type 0
 FindsFew view old new t columns list search conds result = LooksFewOver view old new t columns list search conds (left_by (selected_left (shown_texts list columns)) result)
 
--- A SELECT LOOKS UP NO MORE THAN IT MAY.
+-- A SELECT LOOKS UP NO MORE THAN THAT.
 abbrev pub SelectsFew : {K : Type 0} → (K → KeeperView) → K → K → (StoreState → SelectList → List ℕ → List Pred → Effect) → SelectList → List ℕ → List Pred → Type 0
 SelectsFew view old new effect list t preds = OverStates view old (λ m c. LooksFew (effect m list t preds) c m list t preds (search_in preds) (view old).counts (view new).counts)
 
--- ---- computed examples: of the columns id, body (a CLOB) and price of `docs`
+-- ---- what it may look up, by rows
 
-all_of_them : read_texts Star [] docs_columns ≡ 1 ∷ []
+-- where it is refused: no text, and 1 row, which may stand behind the entries of the indexes
+abbrev pub refused_allowance : Allowance
+refused_allowance = record { texts = Some 0; rows = Some 1; rules = None }
+
+-- where it isn't: of each row that the search finds, before the conditions, the text of each column of texts that list and conditions name; and 1
+-- row more than the search may look up in its index
+abbrev pub found_allowance : Content → StoreState → List ℕ → Table → SelectList → Search → List Cond → Allowance
+found_allowance c m t x list s conds = record {
+  texts = Some (length (found_rows m t x (Some s)) * length (read_texts list conds x.columns));
+  rows = Some (1 + allowance_in c m.thesauri (named_index m t x.columns s) s);
+  rules = None;
+}
+
+-- by its effect, which tells whether it is refused, and by the table, if it is there
+abbrev pub allowance_by : Content → StoreState → SelectList → List ℕ → List Cond → Search → Effect → Option Table → Allowance
+allowance_by c m list t conds s (Refused refusal) found = refused_allowance
+allowance_by c m list t conds s (Does next reply) None = refused_allowance
+allowance_by c m list t conds s (Does next reply) (Some x) = found_allowance c m t x list s conds
+
+-- of one without a search nothing is said
+abbrev pub searching_allowance : Effect → Content → StoreState → SelectList → List ℕ → List Pred → Option Search → Allowance
+searching_allowance effect c m list t preds None = unbounded
+searching_allowance effect c m list t preds (Some s) = allowance_by c m list t (conds_in preds) s effect (get m.tables t)
+
+-- WHAT A SELECT MAY LOOK UP of a content that stands for a state
+abbrev pub select_allowance : Content → StoreState → SelectList → List ℕ → List Pred → Allowance
+select_allowance c m list t preds = searching_allowance (select_statement m list t preds) c m list t preds (search_in preds)
+
+-- WHAT LOOKS UP NO MORE THAN A SELECT DOES AT MOST is within what it may.
+abbrev pub SelectsLookFew : Type 0
+SelectsLookFew = (c : Content) (m : StoreState) (list : SelectList) (t : List ℕ) (preds : List Pred) (old new : Counts)
+    → LooksFew (select_statement m list t preds) c m list t preds (search_in preds) old new → CountsWithin (select_allowance c m list t preds) old new
+
+-- ---- computed examples: of the columns id, a (a CLOB), n (a NUMBER) and b (a VARCHAR2)
+
+all_of_them : read_texts Star [] of_columns ≡ 1 ∷ 3 ∷ []
 all_of_them = refl
 
--- SELECT body, id, body .. WHERE body < 7
-named_thrice : read_texts (Items (ColumnItem (codes "body") ∷ ColumnItem (codes "id") ∷ ColumnItem (codes "body") ∷ [])) (below_seven (codes "body") ∷ []) docs_columns ≡ 1 ∷ []
+-- SELECT b, id, b .. WHERE b = 'x'
+abbrev b_is_x : Cond
+b_is_x = Compare (codes "b") Equal (TextOperand (codes "x"))
+
+named_thrice : read_texts (Items (ColumnItem (codes "b") ∷ ColumnItem (codes "id") ∷ ColumnItem (codes "b") ∷ [])) (b_is_x ∷ []) of_columns ≡ 3 ∷ []
 named_thrice = refl
 
-a_count_reads_no_more : read_texts CountAll (below_seven (codes "id") ∷ []) docs_columns ≡ []
+a_count_reads_no_more : read_texts CountAll (below_seven (codes "id") ∷ []) of_columns ≡ []
 a_count_reads_no_more = refl
 
-and_what_its_conditions_are_on : read_texts CountAll (below_seven (codes "body") ∷ []) docs_columns ≡ 1 ∷ []
+and_what_its_conditions_are_on : read_texts CountAll (b_is_x ∷ []) of_columns ≡ 3 ∷ []
 and_what_its_conditions_are_on = refl
 
 no_text_where_it_is_refused : (c : Content) (most : Counts) → (looks_by (Refused WrongValues) (index_looks c) most).texts ≡ 0
 no_text_where_it_is_refused c most = refl
+
+-- CONTAINS(body, 'fox') > 0, where two rows are found: the price and the id of each are no texts
+abbrev a_fox : Search
+a_fox = Contains (codes "body") (codes "fox") None (Fits (pos 0))
+
+two_texts : (c : Content) (m : StoreState) (x : Table) → x.columns ≡ docs_columns → found_rows m (codes "docs") x (Some a_fox) ≡ (pos 1, 2) ∷ (pos 7, 1) ∷ []
+    → (found_allowance c m (codes "docs") x Star a_fox []).texts ≡ Some 2
+two_texts c m x columns found = λ i. Some (length (found i) * length (read_texts Star [] (columns i)))

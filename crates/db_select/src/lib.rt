@@ -6,6 +6,7 @@ mod copying;
 mod fields;
 mod finds;
 mod hits;
+mod laws;
 mod listing;
 mod names;
 mod pending;
@@ -16,4 +17,5 @@ mod sources;
 mod statements;
 mod waiting;
 
+pub use laws::looking_law;
 pub use statements::select;

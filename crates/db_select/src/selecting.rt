@@ -24,6 +24,7 @@ use db_cond::{Fault, fault_line};
 use db_find::{Found, Search, find, needed_index, search_in};
 use db_rows::has_beyond;
 use db_state::table_columns;
+use ix_search::looking_law;
 use st_parse::{Cond, Pred, SelectList};
 use std::alloc::Global;
 use tb_table::Column;
@@ -75,6 +76,7 @@ fn searched_rows<K: Keeper>(
     ensures reads { OnlyReads K.view keeper.old keeper.new result }
     ensures at_most { FindsFew K.view keeper.old keeper.new table.now columns.now list.now (Some (held_search search.entry)) conds.now result }
 {
+    looking_law();
     let Some(index) = needed_index(alloc, keeper, table, columns, search)? else {
         return Ok(Selected::Refused(fault_line(alloc, Fault::NoIndexOfKind)?));
     };

@@ -9,6 +9,7 @@ use Rattle.ct_entry.specs.laws.Keys.{key_from_bytes}
 use Rattle.tb_table.specs.Shapes.{HasTableValue, IsTableShape}
 use Rattle.ix_context.specs.Shapes.{HasContextValue, IsContextShape}
 use Rattle.tx_prefs.specs.Shapes.{HasPrefValue, IsPrefShape}
+use Rattle.th_store.specs.Shapes.{HasThesaurusValue, IsThesaurusShape}
 use Rattle.db_state.specs.Shapes.{IsStoreEntry}
 
 -- bytes that spell no key are those of no entry
@@ -24,25 +25,31 @@ module _ (spelling value owner part : List ℕ) (kind : Kind) (parts : IsName ow
   of_index shape = record { key = key kind owner part; spelt = parts.1; parts = record { owner = parts.0; part = shape.0 }; has = inr (inl shape.1) }
 
   pub of_preference : IsPrefShape kind part value → IsStoreEntry spelling value
-  of_preference shape = record { key = key kind owner part; spelt = parts.1; parts = record { owner = parts.0; part = shape.rest }; has = inr (inr shape.has) }
+  of_preference shape = record { key = key kind owner part; spelt = parts.1; parts = record { owner = parts.0; part = shape.rest }; has = inr (inr (inl shape.has)) }
+
+  pub of_thesaurus : IsThesaurusShape kind part value → IsStoreEntry spelling value
+  of_thesaurus shape = record { key = key kind owner part; spelt = parts.1; parts = record { owner = parts.0; part = shape.rest }; has = inr (inr (inr shape.has)) }
 
   same_key : (entry : IsStoreEntry spelling value) → entry.key ≡ key kind owner part
   same_key entry = key_from_bytes entry.key (key kind owner part) (sym entry.spelt ∙ parts.1)
 
-  -- it is one of the three
-  pub either : IsStoreEntry spelling value → IsTableShape kind part value ⊎ (IsContextShape kind part value ⊎ IsPrefShape kind part value)
+  -- it is one of the four
+  pub either : IsStoreEntry spelling value → IsTableShape kind part value ⊎ (IsContextShape kind part value ⊎ (IsPrefShape kind part value ⊎ IsThesaurusShape kind part value))
   either entry =
       let rest = subst (λ (k : Key). IsPart k.kind k.part) (same_key entry) entry.parts.part in
       ⊎_elim
       (λ has. inl (record { rest = rest; has = subst (λ (k : Key). HasTableValue k value) (same_key entry) has }))
       (λ others. ⊎_elim
       (λ has. inr (inl (rest, subst (λ (k : Key). HasContextValue k value) (same_key entry) has)))
-      (λ has. inr (inr (record { rest = rest; has = subst (λ (k : Key). HasPrefValue k value) (same_key entry) has }))) others)
+      (λ more. ⊎_elim
+      (λ has. inr (inr (inl (record { rest = rest; has = subst (λ (k : Key). HasPrefValue k value) (same_key entry) has }))))
+      (λ has. inr (inr (inr (record { rest = rest; has = subst (λ (k : Key). HasThesaurusValue k value) (same_key entry) has })))) more) others)
       entry.has
 
   -- the last where it is none of the others
-  pub preference_alone : (IsTableShape kind part value → ⊥) → (IsContextShape kind part value → ⊥) → IsStoreEntry spelling value → IsPrefShape kind part value
-  preference_alone no_table no_index entry = ⊎_elim (λ shape. absurd (no_table shape)) (λ others. ⊎_elim (λ shape. absurd (no_index shape)) (λ shape. shape) others) (either entry)
+  pub thesaurus_alone : (IsTableShape kind part value → ⊥) → (IsContextShape kind part value → ⊥) → (IsPrefShape kind part value → ⊥) → IsStoreEntry spelling value → IsThesaurusShape kind part value
+  thesaurus_alone no_table no_index no_preference entry =
+      ⊎_elim (λ shape. absurd (no_table shape)) (λ others. ⊎_elim (λ shape. absurd (no_index shape)) (λ more. ⊎_elim (λ shape. absurd (no_preference shape)) (λ shape. shape) more) others) (either entry)
 
 -- the parts that were found
 pub spelt_by : {X : Type 0} (key_of : X → Key) (found : Option X) (x : X) (spelling : List ℕ) → SpellsKey spelling (option_map key_of found) → found ≡ Some x → IsName (key_of x).owner × (spelling ≡ bytes (key_of x))

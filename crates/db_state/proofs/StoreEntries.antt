@@ -1,5 +1,5 @@
 -- Each entry of a content that stands for a state is one that a store has.
-use Rattle.std.proofs.Common.{◌≡◌, ℕ, ◌≤◌, true, false, List, ◌∷◌, length, Some, refl, sym, ap, subst, ◌∙◌, inl, inr}
+use Rattle.std.proofs.Common.{◌≡◌, ℕ, ◌≤◌, true, false, List, [], ◌∷◌, arith, length, Some, refl, sym, ap, subst, ◌∙◌, inl, inr}
 use Rattle.std.specs.Prelude.{IsSome}
 use Rattle.std.specs.FinMap.{get}
 use Rattle.ct_base.specs.laws.Options.{none_or_some}
@@ -14,6 +14,12 @@ use Rattle.tb_table.specs.Shapes.{HasTableValue}
 use Rattle.ix_context.specs.Shapes.{HasContextValue}
 use Rattle.tx_prefs.specs.Shapes.{HasPrefValue}
 use Rattle.tx_prefs.specs.laws.Values.{lexer_value, stoplist_value, group_value}
+use Rattle.th_graph.specs.declared.pairs.TermPair.{TermPair}
+use Rattle.th_store.specs.Shapes.{HasThesaurusValue}
+use Rattle.th_store.specs.Thesauri.{pair_part}
+use Rattle.th_store.specs.Spelling.{pair_key, thesaurus_key}
+use Rattle.th_store.specs.laws.Parts.{part_is_pair}
+use Rattle.th_store.specs.laws.Room.{pair_well, thesaurus_well}
 use Rattle.db_state.specs.States.{StoreState, StandsForState, is_built}
 use Rattle.db_state.specs.Shapes.{HasStoreValue, IsStoreEntry}
 use Rattle.db_state.specs.Promises.{StoresAreWell}
@@ -37,7 +43,11 @@ of_index : (k : Key) (v : List ℕ) → has_short_keys k.kind ≡ true → HasCo
 of_index k v short is = record { has = inr (inl is.0); bounded = is.1; short = short }
 
 of_preference : (k : Key) (v : List ℕ) → has_short_keys k.kind ≡ true → HasPrefValue k v × (length v ≤ value_limit) → IsStored k v
-of_preference k v short is = record { has = inr (inr is.0); bounded = is.1; short = short }
+of_preference k v short is = record { has = inr (inr (inl is.0)); bounded = is.1; short = short }
+
+-- an entry of thesauri has no value
+of_thesaurus : (k : Key) (v : List ℕ) → has_short_keys k.kind ≡ true → v ≡ [] → HasThesaurusValue k v → IsStored k v
+of_thesaurus k v short none has = record { has = inr (inr (inr has)); bounded = (let l = ap length none in omega (arith, l)); short = short }
 
 module _ (c : Content) (m : StoreState) (stands : StandsForState c m) where
   -- a kind that has no entries
@@ -58,6 +68,14 @@ module _ (c : Content) (m : StoreState) (stands : StandsForState c m) where
         stands.short_rows (key kind.Spans i (span_part section d)) v refl has,
       )
 
+  thesaurus : (o v : List ℕ) → at c (thesaurus_key o) ≡ Some v → IsStored (thesaurus_key o) v
+  thesaurus o v has = let none = thesaurus_well (at c) m.thesauri stands.thesauri o v has in of_thesaurus (thesaurus_key o) v refl none none
+
+  relation : (o v : List ℕ) (p : TermPair) → at c (pair_key o p) ≡ Some v → IsStored (pair_key o p) v
+  relation o v p has =
+      let well = pair_well (at c) m.thesauri stands.thesauri stands.state.thesauri o p v has in
+      of_thesaurus (pair_key o p) v refl well.1 ((p, well.0, refl), well.1)
+
   -- by the part of the key
   by_part : (kind : Kind) (o v p q : List ℕ) → p ≡ q → (at c (key kind o q) ≡ Some v → IsStored (key kind o q) v) → at c (key kind o p) ≡ Some v → IsStored (key kind o p) v
   by_part kind o v p q same h = subst (λ (x : List ℕ). at c (key kind o x) ≡ Some v → IsStored (key kind o x) v) (sym same) h
@@ -71,8 +89,10 @@ module _ (c : Content) (m : StoreState) (stands : StandsForState c m) where
   stored kind.Stoplists o p v is = by_part kind.Stoplists o v p _ is (λ has. of_preference _ v refl (stoplist_value (at c) m.preferences stands.preferences stands.state.preferences o v has))
   stored kind.SectionGroups o p v is = by_part kind.SectionGroups o v p _ is (λ has. of_preference _ v refl (group_value (at c) m.preferences stands.preferences stands.state.preferences o v has))
   stored kind.IndexSets o p v is = nothing (key kind.IndexSets o p) v refl
-  stored kind.Thesauri o p v is = nothing (key kind.Thesauri o p) v refl
-  stored kind.Relations o p v is = nothing (key kind.Relations o p) v refl
+  stored kind.Thesauri o p v is = by_part kind.Thesauri o v p _ is (thesaurus o v)
+  stored kind.Relations o p v is =
+      let q = part_is_pair p is in
+      by_part kind.Relations o v p (pair_part q.0) q.2 (relation o v q.0)
   stored kind.Indexes o p v is = by_part kind.Indexes o v p _ is (λ has. of_index _ v refl (index_value (at c) m.tables m.indexes stands.state.tables stands.state.indexes stands.indexes o v has))
   stored kind.DocumentRows o p v is = by_part kind.DocumentRows o v p _ is.2 (λ has. of_index _ v refl (document_row_value (at c) m.tables m.indexes stands.state.tables stands.state.indexes stands.indexes o v is.0 is.1 has))
   stored kind.RowDocuments o p v is = by_part kind.RowDocuments o v p _ is.2 (λ has. of_index _ v refl (row_document_value (at c) m.tables m.indexes stands.state.tables stands.state.indexes stands.indexes o v is.0 is.1 has))

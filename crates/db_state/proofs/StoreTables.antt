@@ -1,6 +1,5 @@
 -- The entries that spell tables are ones that a store has.
-use Rattle.std.proofs.Common.{◌≡◌, ℕ, ℤ, zero, suc, ◌<◌, ◌≤◌, List, [], ◌∷◌, length, Option, Some, sym, ap, ◌∙◌, arith}
-use Rattle.std.specs.Str.{IsUtf8}
+use Rattle.std.proofs.Common.{◌≡◌, ℕ, ℤ, ◌<◌, ◌≤◌, List, [], ◌∷◌, length, Option, Some, sym, ap, ◌∙◌, arith}
 use Rattle.std.specs.FinMap.{get}
 use Rattle.ct_base.specs.declared.lists.Value.{Value}
 use Rattle.ct_base.specs.declared.lists.Value.TheVariants.{Number as NumberValue, Text as TextValue}
@@ -14,11 +13,12 @@ use Rattle.tb_table.specs.Tables.{Table, Tables, row_at, numbers_of, text_in_col
 use Rattle.tb_table.specs.Spelling.{TablesStand, columns_bytes, row_numbers_bytes}
 use Rattle.tb_table.specs.Rules.{FitColumns, AreColumns, others, AreTables}
 use Rattle.tb_table.specs.Shapes.{HasTableValue}
-use Rattle.tb_table.specs.laws.Reading.{are_spellable, row_of_table, numbers_fit, texts_are_utf8}
+use Rattle.tb_table.specs.laws.Reading.{are_spellable, row_of_table, numbers_fit}
 use Rattle.tb_table.specs.laws.Rules.{short_column}
 use Rattle.tb_table.specs.laws.Spelling.{length-row_numbers_bytes}
 use Rattle.tb_table.specs.laws.Shapes.{length-few_columns_le}
 use Rattle.tb_table.specs.laws.Well.{few_values}
+use Rattle.ix_context.specs.laws.Limits.{utf8_column}
 
 -- ---- the numbers of a row
 
@@ -33,12 +33,6 @@ few_numbers cs vs are fit =
     let numbers = length-numbers_of_le vs in
     let few = few_values cs vs are fit in
     omega (arith, numbers, few)
-
--- ---- its texts are in UTF-8
-
-column_is_utf8 : (cs : List Column) (vs : List Value) (column : ℕ) (text : List ℕ) → FitColumns cs vs → text_in_column vs column ≡ Some text → IsUtf8 text
-column_is_utf8 cs vs zero text fit is = cc
-column_is_utf8 cs vs (suc place) text fit is = texts_are_utf8 cs vs place text fit is
 
 -- ---- the entries of tables
 
@@ -68,4 +62,4 @@ module _ (f : Key → Option (List ℕ)) (ts : Tables) (stand : TablesStand f ts
       let table = are.each t x.table x.here in
       let fit = table.rows r vs.0 x.row in
       let short = short_column x.table.columns vs.0 c v table.columns.each fit vs.2 in
-      ((omega (arith, short), column_is_utf8 (others x.table.columns) vs.0 c v fit vs.2), omega (arith, short))
+      ((omega (arith, short), utf8_column (others x.table.columns) vs.0 c v fit vs.2), omega (arith, short))

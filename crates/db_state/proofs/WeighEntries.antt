@@ -12,6 +12,7 @@ use Rattle.tb_table.specs.Spelling.{columns_bytes, row_numbers_bytes}
 use Rattle.ix_docmap.specs.Marks.{Mark, Pending, Settled}
 use Rattle.ix_indexes.specs.Indexes.{Index, index_entry}
 use Rattle.tx_prefs.specs.Room.{preference_entries}
+use Rattle.th_store.specs.Room.{thesaurus_entries}
 use Rattle.db_state.specs.States.{StoreState}
 
 abbrev pub Entry : Type 0
@@ -47,4 +48,4 @@ index_entries document e = entry (key kind.Indexes e.0 []) (index_entry e.1) ∷
 -- ---- the state
 
 abbrev pub all_entries : (List ℕ → ℤ → Option ℕ) → StoreState → List Entry
-all_entries document m = flat_map table_entries (entries m.tables) ++ (flat_map (index_entries document) (entries m.indexes) ++ preference_entries m.preferences)
+all_entries document m = flat_map table_entries (entries m.tables) ++ (flat_map (index_entries document) (entries m.indexes) ++ (preference_entries m.preferences ++ thesaurus_entries m.thesauri))

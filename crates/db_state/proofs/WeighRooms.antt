@@ -18,6 +18,7 @@ use Rattle.ix_context.specs.Documents.{document_cost}
 use Rattle.ix_context.specs.Contexts.{mark_room}
 use Rattle.ix_indexes.specs.Indexes.{Index, index_entry, postings_in}
 use Rattle.tx_prefs.specs.Room.{preference_entries}
+use Rattle.th_store.specs.Room.{thesaurus_entries}
 use Rattle.db_state.specs.States.{StoreState}
 use Rattle.db_state.specs.Room.{key_weight, text_room, row_room, table_room, index_room, room}
 use Rattle.ct_entry.specs.laws.Lists.{sum_by-map-le, sum_by-flat_map-le}
@@ -126,8 +127,9 @@ indexes_weigh document ts (e ∷ es) =
 pub all_weigh : (document : List ℕ → ℤ → Option ℕ) (m : StoreState) → sum_by entry_weight (all_entries document m) + sum_by (postings_room m.tables) (entries m.indexes) ≤ room m
 all_weigh document m = omega (
   arith,
-  sum_by-append entry_weight (flat_map table_entries (entries m.tables)) (flat_map (index_entries document) (entries m.indexes) ++ preference_entries m.preferences),
-  sum_by-append entry_weight (flat_map (index_entries document) (entries m.indexes)) (preference_entries m.preferences),
+  sum_by-append entry_weight (flat_map table_entries (entries m.tables)) (flat_map (index_entries document) (entries m.indexes) ++ (preference_entries m.preferences ++ thesaurus_entries m.thesauri)),
+  sum_by-append entry_weight (flat_map (index_entries document) (entries m.indexes)) (preference_entries m.preferences ++ thesaurus_entries m.thesauri),
+  sum_by-append entry_weight (preference_entries m.preferences) (thesaurus_entries m.thesauri),
   sum_by-flat_map-le table_entries entry_weight table_room table_weighs (entries m.tables),
   indexes_weigh document m.tables (entries m.indexes),
 )

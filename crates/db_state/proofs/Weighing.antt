@@ -23,6 +23,10 @@ use Rattle.ix_indexes.specs.laws.Indexes.{context_at}
 use Rattle.ix_context.specs.laws.Weights.{has_code, weighs as postings_weigh}
 use Rattle.tx_prefs.specs.Room.{preference_entries}
 use Rattle.tx_prefs.specs.laws.Room.{lexer_in, stoplist_in, group_in}
+use Rattle.th_store.specs.Thesauri.{pair_part}
+use Rattle.th_store.specs.Room.{thesaurus_entries}
+use Rattle.th_store.specs.laws.Parts.{part_is_pair}
+use Rattle.th_store.specs.laws.Room.{pair_in, thesaurus_in}
 use Rattle.db_state.specs.States.{StoreState, StandsForState, is_built, is_of_rows}
 use Rattle.db_state.specs.Room.{room}
 use Rattle.db_state.proofs.WeighEntries.{Entry, entry, table_entries, index_entries, all_entries}
@@ -51,17 +55,24 @@ module _ (c : Content) (m : StoreState) (stands : StandsForState c m) where
   abbrev IsListed : Key → List ℕ → Type 0
   IsListed k v = IsIn (entry k v) (all_entries its_numbers m)
 
+  -- those of preferences and of thesauri
+  abbrev defined : List Entry
+  defined = preference_entries m.preferences ++ thesaurus_entries m.thesauri
+
   abbrev others : List Entry
-  others = flat_map (index_entries its_numbers) (entries m.indexes) ++ preference_entries m.preferences
+  others = flat_map (index_entries its_numbers) (entries m.indexes) ++ defined
 
   of_tables : (e : Entry) → IsIn e (flat_map table_entries (entries m.tables)) → IsIn e (all_entries its_numbers m)
   of_tables e h = in_left e (flat_map table_entries (entries m.tables)) others h
 
   of_indexes : (e : Entry) → IsIn e (flat_map (index_entries its_numbers) (entries m.indexes)) → IsIn e (all_entries its_numbers m)
-  of_indexes e h = in_right e (flat_map table_entries (entries m.tables)) others (in_left e (flat_map (index_entries its_numbers) (entries m.indexes)) (preference_entries m.preferences) h)
+  of_indexes e h = in_right e (flat_map table_entries (entries m.tables)) others (in_left e (flat_map (index_entries its_numbers) (entries m.indexes)) defined h)
 
   of_preferences : (e : Entry) → IsIn e (preference_entries m.preferences) → IsIn e (all_entries its_numbers m)
-  of_preferences e h = in_right e (flat_map table_entries (entries m.tables)) others (in_right e (flat_map (index_entries its_numbers) (entries m.indexes)) (preference_entries m.preferences) h)
+  of_preferences e h = in_right e (flat_map table_entries (entries m.tables)) others (in_right e (flat_map (index_entries its_numbers) (entries m.indexes)) defined (in_left e (preference_entries m.preferences) (thesaurus_entries m.thesauri) h))
+
+  of_thesauri : (e : Entry) → IsIn e (thesaurus_entries m.thesauri) → IsIn e (all_entries its_numbers m)
+  of_thesauri e h = in_right e (flat_map table_entries (entries m.tables)) others (in_right e (flat_map (index_entries its_numbers) (entries m.indexes)) defined (in_right e (preference_entries m.preferences) (thesaurus_entries m.thesauri) h))
 
   -- a kind that has no entries
   nothing : (k : Key) (v : List ℕ) → is_built k.kind ≡ false → at c k ≡ Some v → IsListed k v
@@ -80,8 +91,10 @@ module _ (c : Content) (m : StoreState) (stands : StandsForState c m) where
   listed kind.Stoplists o p v other is = by_part kind.Stoplists o v p _ is (λ has. of_preferences _ (stoplist_in (at c) m.preferences stands.preferences o v has))
   listed kind.SectionGroups o p v other is = by_part kind.SectionGroups o v p _ is (λ has. of_preferences _ (group_in (at c) m.preferences stands.preferences o v has))
   listed kind.IndexSets o p v other is = nothing (key kind.IndexSets o p) v refl
-  listed kind.Thesauri o p v other is = nothing (key kind.Thesauri o p) v refl
-  listed kind.Relations o p v other is = nothing (key kind.Relations o p) v refl
+  listed kind.Thesauri o p v other is = by_part kind.Thesauri o v p _ is (λ has. of_thesauri _ (thesaurus_in (at c) m.thesauri stands.thesauri o v has))
+  listed kind.Relations o p v other is =
+      let q = part_is_pair p is in
+      by_part kind.Relations o v p (pair_part q.0) q.2 (λ has. of_thesauri _ (pair_in (at c) m.thesauri stands.thesauri o q.0 v has))
   listed kind.Indexes o p v other is = by_part kind.Indexes o v p _ is (λ has. of_indexes _ (index_in (at c) m.tables m.indexes stands.indexes o v has))
   listed kind.DocumentRows o p v other is = by_part kind.DocumentRows o v p _ is.2 (λ has. of_indexes _ (document_row_in (at c) m.tables m.indexes stands.indexes o v is.0 is.1 has))
   listed kind.RowDocuments o p v other is = by_part kind.RowDocuments o v p _ is.2 (λ has. of_indexes _ (row_document_in (at c) m.tables m.indexes stands.indexes o v is.0 is.1 has))

@@ -10,6 +10,7 @@ use Rattle.db_cond.specs.declared.faults.Fault.TheVariants.{WrongValues as Wrong
 use Rattle.db_state.specs.States.{StoreState, StandsForState}
 use Rattle.db_state.specs.Effects.{Effect, Refused, Does, state_by, reply_by, is_done}
 use Rattle.db_state.specs.Shapes.{AreStoreChanges}
+use Rattle.db_state.specs.Lines.{call_done}
 use Rattle.db_state.specs.Room.{room}
 use Rattle.db_cond.specs.Refused.{refusal_of}
 use Rattle.db_state.specs.declared.plans.Plan.{Plan}
@@ -139,6 +140,10 @@ Replies view old new result effect lines = Fulfils effect lines (view old) (view
 -- The call gave a plan of the statement, unless it failed.
 abbrev pub Plans : {K : Type 0} → (K → KeeperView) → K → Result Plan KeepFault → (StoreState → Effect) → List ℕ → Type 0
 Plans view old result effect line = IfOk result (IsPlanOf effect line (view old))
+
+-- The call gave the plan of this effect over each state of which this holds, unless it failed.
+abbrev pub PlansWhere : {E : Type 0} → Result Plan E → (StoreState → Type 0) → (StoreState → Effect) → Type 0
+PlansWhere result holds effect = (m : StoreState) (c : Content) → StandsForState c m → holds m → IfOk result (IsPlan (effect m) call_done c)
 
 -- computed examples: the plan of a statement that is refused, and the reply that an effect gives
 a_refusal : (c : Content) → IsPlan (Refused WrongValues) [] c (PlanRefused WrongValuesFault)

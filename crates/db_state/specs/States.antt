@@ -15,16 +15,20 @@ use Rattle.ix_indexes.specs.Indexes.{Index, IndexesStand, AreIndexes}
 use Rattle.tx_prefs.specs.Preferences.{Preferences, no_preferences}
 use Rattle.tx_prefs.specs.Spelling.{PreferencesStand}
 use Rattle.tx_prefs.specs.Rules.{ArePreferences}
+use Rattle.th_store.specs.Thesauri.{Thesauri, no_thesauri}
+use Rattle.th_store.specs.Spelling.{ThesauriStand}
+use Rattle.th_store.specs.Rules.{AreThesauri}
 
--- the tables with their rows, the text indexes on them, and what has been defined for indexes
+-- the tables with their rows, the text indexes on them, what has been defined for indexes, and the thesauri
 pub record StoreState : Type 0 where
   pub tables : Tables
   pub indexes : Names Index
   pub preferences : Preferences
+  pub thesauri : Thesauri
 
 -- as a new store has it
 abbrev pub empty_state : StoreState
-empty_state = record { tables = empty; indexes = empty; preferences = no_preferences }
+empty_state = record { tables = empty; indexes = empty; preferences = no_preferences; thesauri = no_thesauri }
 
 -- the names that are kept for what is only looked at, and are never those of tables
 abbrev pub is_view : List ℕ → Bool
@@ -45,8 +49,9 @@ pub record IsState (m : StoreState) : Type 0 where
   pub views : (t : List ℕ) (x : Table) → get m.tables t ≡ Some x → is_view t ≡ false
   pub few : (t : List ℕ) → length (indexes_on m.indexes t) ≤ index_limit
   pub preferences : ArePreferences m.preferences
+  pub thesauri : AreThesauri m.thesauri
 
--- the kinds of entries that tables, CONTEXT indexes, and lexer preferences, stoplists and section groups have; for now there is nothing else that is kept
+-- the kinds of entries that tables, CONTEXT indexes, lexer preferences, stoplists, section groups and thesauri have; for now there is nothing else that is kept
 abbrev pub is_built : Kind → Bool
 is_built kind.Tables = true
 is_built kind.RowNumbers = true
@@ -55,8 +60,8 @@ is_built kind.Preferences = true
 is_built kind.Stoplists = true
 is_built kind.SectionGroups = true
 is_built kind.IndexSets = false
-is_built kind.Thesauri = false
-is_built kind.Relations = false
+is_built kind.Thesauri = true
+is_built kind.Relations = true
 is_built kind.Indexes = true
 is_built kind.DocumentRows = true
 is_built kind.RowDocuments = true
@@ -86,6 +91,7 @@ pub record StandsForState (c : Content) (m : StoreState) : Type 0 where
   pub tables : TablesStand (at c) m.tables
   pub indexes : IndexesStand (at c) m.tables m.indexes
   pub preferences : PreferencesStand (at c) m.preferences
+  pub thesauri : ThesauriStand (at c) m.thesauri
   pub short_rows : HasShortRows (at c)
   pub state : IsState m
 

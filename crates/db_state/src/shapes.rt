@@ -8,10 +8,11 @@ use ct_keep::Shape;
 use ix_context::is_context_shape;
 use std::alloc::Global;
 use tb_table::is_table_shape;
+use th_store::is_thesaurus_shape;
 use tx_prefs::is_pref_shape;
 
-/// The shape of a store: each entry is one of a table, of a CONTEXT index, or of a preference, a stoplist or a section group, with a key and a value of its kind's form
-/// (docs/STORE.md). To tell of an entry costs the length of its key and its value.
+/// The shape of a store: each entry is one of a table, of a CONTEXT index, of a preference, a stoplist or a section group, or of a
+/// thesaurus, with a key and a value of its kind's form (docs/STORE.md). To tell of an entry costs the length of its key and its value.
 #[derive(Drop)]
 pub struct StoreShape;
 
@@ -28,6 +29,9 @@ impl Shape for StoreShape {
         if is_context_shape(alloc, kind, part, value)? {
             return Ok(true);
         }
-        is_pref_shape(alloc, kind, part, value)
+        if is_pref_shape(alloc, kind, part, value)? {
+            return Ok(true);
+        }
+        Ok(is_thesaurus_shape(kind, part, value))
     }
 }

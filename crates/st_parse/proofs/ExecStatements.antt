@@ -16,7 +16,8 @@ use Rattle.st_parse.specs.Lists.{AreEnclosed, enclosed_last}
 use Rattle.st_parse.specs.Values.{IsSigned, signed_at}
 use Rattle.st_parse.specs.declared.procedures.Definition.TheVariants.{CreatePreference, SetAttribute, CreateStoplist, AddStopword, CreateSectionGroup, AddZoneSection, AddFieldSection, AddSpecialSection}
 use Rattle.st_parse.specs.declared.procedures.Procedure.{Procedure}
-use Rattle.st_parse.specs.declared.procedures.Procedure.TheVariants.{PolicyTokens, SyncIndex, Define}
+use Rattle.st_parse.specs.declared.procedures.ThesaurusCall.TheVariants.{CreateThesaurus, CreateRelation}
+use Rattle.st_parse.specs.declared.procedures.Procedure.TheVariants.{PolicyTokens, SyncIndex, Define, Thesaurus}
 use Rattle.st_parse.specs.Procedures.{procedure_package, procedure_name, all_procedures, procedure_among, procedure_named}
 use Rattle.st_parse.specs.Calling.{IsExec, IsArg, AreArgs, arg_at, args_of, call_of, exec_of}
 use Rattle.st_parse.specs.Grammar.{IsStatement}
@@ -80,6 +81,8 @@ named-again (Define CreateSectionGroup) = refl
 named-again (Define AddZoneSection) = refl
 named-again (Define AddFieldSection) = refl
 named-again (Define AddSpecialSection) = refl
+named-again (Thesaurus CreateThesaurus) = refl
+named-again (Thesaurus CreateRelation) = refl
 
 -- EXEC
 

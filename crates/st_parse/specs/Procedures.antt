@@ -3,8 +3,10 @@ use Rattle.std.specs.Prelude.{ℕ, ◌≡◌, ◌&&◌, List, [], ◌∷◌, byt
 use Rattle.std.specs.Bool.{if◌then◌else◌}
 use Rattle.st_parse.specs.declared.procedures.Definition.{Definition}
 use Rattle.st_parse.specs.declared.procedures.Definition.TheVariants.{CreatePreference, SetAttribute, CreateStoplist, AddStopword, CreateSectionGroup, AddZoneSection, AddFieldSection, AddSpecialSection}
+use Rattle.st_parse.specs.declared.procedures.ThesaurusCall.{ThesaurusCall}
+use Rattle.st_parse.specs.declared.procedures.ThesaurusCall.TheVariants.{CreateThesaurus, CreateRelation}
 use Rattle.st_parse.specs.declared.procedures.Procedure.{Procedure}
-use Rattle.st_parse.specs.declared.procedures.Procedure.TheVariants.{PolicyTokens, SyncIndex, Define}
+use Rattle.st_parse.specs.declared.procedures.Procedure.TheVariants.{PolicyTokens, SyncIndex, Define, Thesaurus}
 
 abbrev pub definition_name : Definition → List ℕ
 definition_name CreatePreference = codes "create_preference"
@@ -16,20 +18,26 @@ definition_name AddZoneSection = codes "add_zone_section"
 definition_name AddFieldSection = codes "add_field_section"
 definition_name AddSpecialSection = codes "add_special_section"
 
+abbrev pub thesaurus_call_name : ThesaurusCall → List ℕ
+thesaurus_call_name CreateThesaurus = codes "create_thesaurus"
+thesaurus_call_name CreateRelation = codes "create_relation"
+
 abbrev pub procedure_package : Procedure → List ℕ
 procedure_package PolicyTokens = codes "ctx_doc"
 procedure_package SyncIndex = codes "ctx_ddl"
 procedure_package (Define definition) = codes "ctx_ddl"
+procedure_package (Thesaurus call) = codes "ctx_thes"
 
 abbrev pub procedure_name : Procedure → List ℕ
 procedure_name PolicyTokens = codes "policy_tokens"
 procedure_name SyncIndex = codes "sync_index"
 procedure_name (Define definition) = definition_name definition
+procedure_name (Thesaurus call) = thesaurus_call_name call
 
 abbrev pub all_procedures : List Procedure
 all_procedures =
     PolicyTokens ∷ SyncIndex ∷ Define CreatePreference ∷ Define SetAttribute ∷ Define CreateStoplist ∷ Define AddStopword ∷ Define CreateSectionGroup ∷ Define AddZoneSection
-    ∷ Define AddFieldSection ∷ Define AddSpecialSection ∷ []
+    ∷ Define AddFieldSection ∷ Define AddSpecialSection ∷ Thesaurus CreateThesaurus ∷ Thesaurus CreateRelation ∷ []
 
 -- the first of some that has these names
 abbrev pub procedure_among : List ℕ → List ℕ → List Procedure → Option Procedure
@@ -43,6 +51,9 @@ procedure_named pack name = procedure_among pack name all_procedures
 -- computed examples
 a_definition : procedure_named (codes "ctx_ddl") (codes "add_stopword") ≡ Some (Define AddStopword)
 a_definition = refl
+
+a_relation : procedure_named (codes "ctx_thes") (codes "create_relation") ≡ Some (Thesaurus CreateRelation)
+a_relation = refl
 
 of_another_package : procedure_named (codes "ctx_doc") (codes "add_stopword") ≡ None
 of_another_package = refl

@@ -23,7 +23,7 @@ pub use laws::{one_statement, statement_is_read, written_is_read};
 pub use lexemes::{Keyword, Lexeme, Symbol};
 pub use lexing::is_blank;
 pub use parsing::{StatementFault, parse};
-pub use procedures::{Definition, Procedure};
+pub use procedures::{Definition, Procedure, ThesaurusCall};
 pub use statements::{
     Arg, Args, Assign, Assigns, ColumnNames, ColumnText, ColumnTexts, Compare, Cond, Conds,
     IndexKind, Item, Items, Operand, Operands, OrderItem, Orders, Pred, Preds, SelectList,

@@ -1,7 +1,7 @@
 //! The procedures that a statement may call.
 
 ghost use Rattle.std.specs.Prelude.{◌≡◌, ◌&&◌, bytes_eq};
-ghost use Rattle.st_parse.specs.Procedures.{all_procedures, definition_name, procedure_name, procedure_named, procedure_package};
+ghost use Rattle.st_parse.specs.Procedures.{all_procedures, definition_name, procedure_name, procedure_named, procedure_package, thesaurus_call_name};
 
 /// A procedure of CTX_DDL that defines something for indexes.
 #[derive(Clone, Copy, Debug, PartialEq, Eq)]
@@ -16,6 +16,13 @@ pub enum Definition {
     AddSpecialSection,
 }
 
+/// A procedure of CTX_THES, which makes a thesaurus or states a relation of its terms.
+#[derive(Clone, Copy, Debug, PartialEq, Eq)]
+pub enum ThesaurusCall {
+    CreateThesaurus,
+    CreateRelation,
+}
+
 /// A procedure.
 #[derive(Clone, Copy, Debug, PartialEq, Eq)]
 pub enum Procedure {
@@ -25,10 +32,12 @@ pub enum Procedure {
     SyncIndex,
     /// One of CTX_DDL that defines something for indexes.
     Define(Definition),
+    /// One of CTX_THES.
+    Thesaurus(ThesaurusCall),
 }
 
 /// All procedures.
-const ALL_PROCEDURES: [Procedure; 10] = [
+const ALL_PROCEDURES: [Procedure; 12] = [
     Procedure::PolicyTokens,
     Procedure::SyncIndex,
     Procedure::Define(Definition::CreatePreference),
@@ -39,6 +48,8 @@ const ALL_PROCEDURES: [Procedure; 10] = [
     Procedure::Define(Definition::AddZoneSection),
     Procedure::Define(Definition::AddFieldSection),
     Procedure::Define(Definition::AddSpecialSection),
+    Procedure::Thesaurus(ThesaurusCall::CreateThesaurus),
+    Procedure::Thesaurus(ThesaurusCall::CreateRelation),
 ];
 
 impl Definition {
@@ -59,6 +70,18 @@ impl Definition {
     }
 }
 
+impl ThesaurusCall {
+    /// The name of the procedure, in lower case.
+    fn name(self) -> &'static str
+        ensures { result.now ≡ thesaurus_call_name self }
+    {
+        match self {
+            ThesaurusCall::CreateThesaurus => "create_thesaurus",
+            ThesaurusCall::CreateRelation => "create_relation",
+        }
+    }
+}
+
 impl Procedure {
     /// The name of its package, in lower case.
     pub fn package(self) -> &'static str
@@ -67,6 +90,7 @@ impl Procedure {
         match self {
             Procedure::PolicyTokens => "ctx_doc",
             Procedure::SyncIndex | Procedure::Define(_) => "ctx_ddl",
+            Procedure::Thesaurus(_) => "ctx_thes",
         }
     }
 
@@ -78,6 +102,7 @@ impl Procedure {
             Procedure::PolicyTokens => "policy_tokens",
             Procedure::SyncIndex => "sync_index",
             Procedure::Define(definition) => definition.name(),
+            Procedure::Thesaurus(call) => call.name(),
         }
     }
 

@@ -48,6 +48,7 @@ use Rattle.st_parse.specs.declared.statements.Assign.{Assign}
 use Rattle.db_rows.specs.Values.{values_behind_key, row_values}
 use Rattle.tx_prefs.specs.Spelling.{PreferencesStand}
 use Rattle.tx_prefs.specs.laws.Changes.{preferences_frame, other_kinds}
+use Rattle.th_store.specs.laws.Changes.{thesauri_unchanged}
 use Rattle.db_state.specs.States.{StoreState, StandsForState, HasShortRows, is_of_rows, is_built, is_view, index_limit}
 use Rattle.db_state.specs.laws.Kinds.{tables_no_map}
 use Rattle.db_state.specs.laws.ShortRows.{rows_frame}
@@ -318,6 +319,7 @@ module _ (c : Content) (m : StoreState) (t : List ℕ) (x : Table) (assigns : Li
               (tables_stand rows distinct there (at c) m.tables stands.state.tables (λ q. refl) (λ r among. refl) stands.tables);
           indexes = subst (λ (f : Key → Option (List ℕ)). IndexesStand f us ys) (sym (at_view ws c)) hold.stand;
           preferences = subst (λ (f : Key → Option (List ℕ)). PreferencesStand f m.preferences) (sym (at_view ws c)) (preferences_frame is_of_update ws (at c) m.preferences (updates_kinds rows) (other_kinds is_of_update refl refl refl) stands.preferences);
+          thesauri = thesauri_unchanged is_of_update ws c m.thesauri (updates_kinds rows) refl refl stands.thesauri;
           short_rows = subst HasShortRows (sym (at_view ws c)) (rows_frame is_of_update ws (at c) (updates_kinds rows) update_rows stands.short_rows);
           state = record {
             tables = hold.tables;
@@ -325,5 +327,6 @@ module _ (c : Content) (m : StoreState) (t : List ℕ) (x : Table) (assigns : Li
             views = views_stay;
             few = λ q. subst (λ (n : ℕ). n ≤ index_limit) (sym (few_after (looks_at_any kinds places) step m.tables t rows m.indexes q)) (stands.state.few q);
             preferences = stands.state.preferences;
+            thesauri = stands.state.thesauri;
           };
         }

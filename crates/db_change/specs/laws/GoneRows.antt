@@ -40,6 +40,7 @@ use Rattle.ix_indexes.specs.Noting.{kind_changes, heads_changes}
 use Rattle.ix_indexes.specs.laws.Noting.{each_among}
 use Rattle.tx_prefs.specs.Spelling.{PreferencesStand}
 use Rattle.tx_prefs.specs.laws.Changes.{preferences_frame, other_kinds}
+use Rattle.th_store.specs.laws.Changes.{thesauri_unchanged}
 use Rattle.db_state.specs.laws.ShortRows.{rows_frame}
 use Rattle.db_state.specs.laws.Kinds.{tables_no_map}
 use Rattle.db_state.specs.States.{StoreState, StandsForState, HasShortRows, is_of_rows, is_view, is_built, index_limit}
@@ -232,6 +233,7 @@ gone_rows_stand c m t x rows stands here once there =
       indexes = subst (λ (f : Key → Option (List ℕ)). IndexesStand f (tables_after (lose_row t) m.tables rows) (indexes_after kinds (every kinds) (lose_row t) m.tables t rows m.indexes)) (sym seen) hold.stand;
       unbuilt = λ k h. at-after ws c k ∙ told_frame is_of_row ws k (at c k) (all_rows (at c) t x.columns es rows) (row_built k.kind h) ∙ stands.unbuilt k h;
       preferences = subst (λ (f : Key → Option (List ℕ)). PreferencesStand f m.preferences) (sym seen) (preferences_frame is_of_row ws (at c) m.preferences (all_rows (at c) t x.columns es rows) (other_kinds is_of_row refl refl refl) stands.preferences);
+      thesauri = thesauri_unchanged is_of_row ws c m.thesauri (all_rows (at c) t x.columns es rows) refl refl stands.thesauri;
       short_rows = subst HasShortRows (sym seen) (rows_frame is_of_row ws (at c) (all_rows (at c) t x.columns es rows) row_rows stands.short_rows);
       state = record {
         tables = hold.tables;
@@ -239,5 +241,6 @@ gone_rows_stand c m t x rows stands here once there =
         views = no_views m t rows stands.state.views;
         few = λ q. subst (λ (n : ℕ). n ≤ index_limit) (sym (few_after (every kinds) (lose_row t) m.tables t rows m.indexes q)) (stands.state.few q);
         preferences = stands.state.preferences;
+        thesauri = stands.state.thesauri;
       };
     }

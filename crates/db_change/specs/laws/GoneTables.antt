@@ -24,6 +24,8 @@ use Rattle.ix_indexes.specs.laws.Removing.{remove_all_loses, all_of_indexes, all
 use Rattle.db_names.specs.laws.Pairs.{rises_filter}
 use Rattle.tx_prefs.specs.Spelling.{PreferencesStand}
 use Rattle.tx_prefs.specs.laws.Changes.{preferences_frame, other_kinds}
+use Rattle.th_store.specs.Spelling.{ThesauriStand}
+use Rattle.th_store.specs.laws.Changes.{others_leave_thesauri}
 use Rattle.db_state.specs.States.{StoreState, StandsForState, HasShortRows, is_view, indexes_on, index_limit}
 use Rattle.db_state.specs.laws.ShortRows.{rows_frame, rows_left}
 use Rattle.db_state.specs.laws.EachValue.{entries-from_rising}
@@ -104,6 +106,8 @@ module _ (c : Content) (m : StoreState) (t : List ℕ) (names : List (List ℕ))
         indexes = subst (λ (f : Key → Option (List ℕ)). IndexesStand f (without_table m.tables t) (without_indexes_on m.indexes t)) (sym seen)
             (drop_table_stands kinds context_laws (at c) all_gone m.tables (without_table m.tables t) m.indexes t loses (others_same m.tables t) stands.indexes);
         preferences = subst (λ (f : Key → Option (List ℕ)). PreferencesStand f m.preferences) (sym seen) (preferences_frame is_of_indexes vs of_tables_gone m.preferences (all_of_indexes c names) (other_kinds is_of_indexes refl refl refl) (preferences_frame is_of_tables us (at c) m.preferences (all_remove t c) (other_kinds is_of_tables refl refl refl) stands.preferences));
+        thesauri = subst (λ (f : Key → Option (List ℕ)). ThesauriStand f m.thesauri) (sym seen)
+            (others_leave_thesauri is_of_indexes vs of_tables_gone m.thesauri (all_of_indexes c names) refl refl (others_leave_thesauri is_of_tables us (at c) m.thesauri (all_remove t c) refl refl stands.thesauri));
         short_rows = subst HasShortRows (sym seen) (rows_left of_tables_gone all_gone (λ k v has. told_all c names k (of_tables_gone k) v has) (rows_frame is_of_tables us (at c) (all_remove t c) rows_tables stands.short_rows));
         state = record {
           tables = remove_keeps m.tables t stands.state.tables;
@@ -111,5 +115,6 @@ module _ (c : Content) (m : StoreState) (t : List ℕ) (names : List (List ℕ))
           views = views_left m t stands.state.views;
           few = λ q. few_left m.indexes t q (stands.state.few q);
           preferences = stands.state.preferences;
+          thesauri = stands.state.thesauri;
         };
       }

@@ -34,6 +34,8 @@ use Rattle.db_names.specs.laws.Heads.{heads_at, heads_rise, heads_each}
 use Rattle.db_names.specs.laws.Pairs.{lookup-find}
 use Rattle.tx_prefs.specs.Spelling.{PreferencesStand}
 use Rattle.tx_prefs.specs.laws.Changes.{preferences_frame, other_kinds}
+use Rattle.th_store.specs.Spelling.{ThesauriStand}
+use Rattle.th_store.specs.laws.Changes.{others_leave_thesauri}
 use Rattle.db_state.specs.laws.ShortRows.{rows_frame}
 use Rattle.db_state.specs.States.{StoreState, IsState, StandsForState, HasShortRows, is_view, index_limit}
 use Rattle.db_change.specs.Inserting.{with_new_row}
@@ -157,6 +159,7 @@ new_row_state m t x r vs is state row fit room = record {
   views = views_stay m t x r vs is state.views;
   few = λ q. subst (λ (n : ℕ). n ≤ index_limit) (sym (few_after_row (every kinds) t (row_change m.tables (with_row m.tables t r vs) t r) m.indexes q)) (state.few q);
   preferences = state.preferences;
+  thesauri = state.thesauri;
 }
 
 -- ---- the entries
@@ -197,6 +200,8 @@ new_row_stands c m t x r vs stands is none row fit room =
           ∙ told_frame is_of_tables a k (at c k) (all_insert t r (numbers_of vs) (texts_of vs)) (tables_built k.kind h)
           ∙ stands.unbuilt k h;
       preferences = subst (λ (f : Key → Option (List ℕ)). PreferencesStand f m.preferences) (sym seen) (preferences_frame is_of_map b (view a (at c)) m.preferences all (other_kinds is_of_map refl refl refl) (preferences_frame is_of_tables a (at c) m.preferences (all_insert t r (numbers_of vs) (texts_of vs)) (other_kinds is_of_tables refl refl refl) stands.preferences));
+      thesauri = subst (λ (f : Key → Option (List ℕ)). ThesauriStand f m.thesauri) (sym seen)
+          (others_leave_thesauri is_of_map b (view a (at c)) m.thesauri all refl refl (others_leave_thesauri is_of_tables a (at c) m.thesauri (all_insert t r (numbers_of vs) (texts_of vs)) refl refl stands.thesauri));
       short_rows = subst HasShortRows (sym seen) (rows_frame is_of_map b (view a (at c)) all map_rows (rows_frame is_of_tables a (at c) (all_insert t r (numbers_of vs) (texts_of vs)) rows_tables stands.short_rows));
       state = new_row_state m t x r vs is stands.state row fit room;
     }

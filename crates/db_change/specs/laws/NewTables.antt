@@ -32,6 +32,7 @@ use Rattle.std.specs.Option.{unwrap_or}
 use Rattle.tb_table.specs.declared.columns.Sort.TheVariants.{Number}
 use Rattle.tx_prefs.specs.Spelling.{PreferencesStand}
 use Rattle.tx_prefs.specs.laws.Changes.{preferences_frame, other_kinds}
+use Rattle.th_store.specs.laws.Changes.{thesauri_unchanged}
 use Rattle.db_state.specs.Effects.{whole_count}
 use Rattle.db_change.specs.Creating.{is_number_sort, is_key_first, names_differ, is_size, is_sized, all_sized, declared_sort, column_of, with_new_table}
 use Rattle.db_state.specs.laws.ShortRows.{rows_frame}
@@ -91,6 +92,7 @@ new_table_stands c m t columns stands none free name are few =
           (table_stands kinds context_laws (at c) m.tables m.indexes t columns none stands.state.indexes stands.indexes));
       unbuilt = λ k h. at-after ws c k ∙ told_frame is_of_tables ws k (at c k) (all_create t columns) (tables_built k.kind h) ∙ stands.unbuilt k h;
       preferences = subst (λ (f : Key → Option (List ℕ)). PreferencesStand f m.preferences) (sym (at_view ws c)) (preferences_frame is_of_tables ws (at c) m.preferences (all_create t columns) (other_kinds is_of_tables refl refl refl) stands.preferences);
+      thesauri = thesauri_unchanged is_of_tables ws c m.thesauri (all_create t columns) refl refl stands.thesauri;
       short_rows = subst HasShortRows (sym (at_view ws c)) (rows_frame is_of_tables ws (at c) (all_create t columns) rows_tables stands.short_rows);
       state = record {
         tables = create_keeps m.tables t columns stands.state.tables name are few;
@@ -98,6 +100,7 @@ new_table_stands c m t columns stands none free name are few =
         views = views_stay m t columns free stands.state.views;
         few = stands.state.few;
         preferences = stands.state.preferences;
+        thesauri = stands.state.thesauri;
       };
     }
 

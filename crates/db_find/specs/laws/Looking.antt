@@ -1,17 +1,16 @@
--- A search looks at no text, and at nothing where it is refused.
-use Rattle.std.proofs.Common.{◌≡◌, ◌+◌, ℕ, List, [], ◌∷◌, ◌++◌, Option, Some, None, refl, sym, ap, subst, ◌∙◌, arith}
+-- A search looks at no more rows than it may and at no text, and at nothing where it is refused.
+use Rattle.std.proofs.Common.{◌≡◌, ◌≤◌, ℕ, List, [], ◌∷◌, Option, Some, None, refl, sym, ap, subst, ◌∙◌, arith}
 use Rattle.ct_keep.specs.Content.{Content}
 use Rattle.ct_keep.specs.KeeperViews.{Counts}
 use Rattle.ct_keep.specs.Looks.{no_looks, one_if, scan_looks, RisesBy}
-use Rattle.ct_keep.specs.laws.Looks.{behind_kind, texts-scan_looks}
-use Rattle.ct_entry.specs.Keys.{counted_bytes}
-use Rattle.ix_search.specs.Looking.{key_looks, keys_looks, name_looks, names_looks, query_looks, slots_looks}
-use Rattle.ix_search.specs.Reading.{section_names, wanted_slots}
+use Rattle.ct_keep.specs.laws.Looks.{behind_kind, rows-scan_looks, texts-scan_looks}
+use Rattle.tb_table.specs.laws.NameOrder.{at_most_one}
+use Rattle.th_store.specs.Thesauri.{Thesauri}
+use Rattle.ix_search.specs.Looking.{QueriesLookFew}
 use Rattle.ix_indexes.specs.Indexes.{Index}
-use Rattle.q_tree.specs.ReducedQueries.{Reduced}
 use Rattle.db_cond.specs.Faults.{Refusal}
 use Rattle.db_find.specs.Finding.{search_refusal}
-use Rattle.db_find.specs.Looking.{looks_in, meaning_looks, search_looks}
+use Rattle.db_find.specs.Looking.{allowance_in, looks_in, meaning_allowance, meaning_looks, search_allowance, search_looks}
 use Rattle.db_find.specs.Querying.{Finds, Meaning, Refuses, meaning_of, refusal_in}
 use Rattle.db_find.specs.Searches.{Search, Contains, threshold_of}
 
@@ -31,54 +30,43 @@ rises_behind most old mid new none rises = record { texts = omega (arith, none.t
 pub rises_as : (most same old new : Counts) → most ≡ same → RisesBy same old new → RisesBy most old new
 rises_as most same old new is rises = subst (λ (c : Counts). RisesBy c old new) (sym is) rises
 
--- ---- no text
+-- ---- what a search may look at
 
--- the entries of indexes, and rows of postings, stand behind the texts
+-- the entries of indexes stand behind the texts
 pub indexes_texts : (m : Content) → (scan_looks (0x20 ∷ []) m).texts ≡ 0
 indexes_texts m = texts-scan_looks 0x20 [] m ∙ ap one_if (behind_kind 0x03 0x20 [] m (omega arith))
 
-key_texts : (m : Content) (i : List ℕ) (stream : ℕ) (key : List ℕ) → (key_looks m i stream key).texts ≡ 0
-key_texts m i stream key =
-    let rest = counted_bytes i ++ (stream ∷ counted_bytes key) in
-    texts-scan_looks 0x24 rest m ∙ ap one_if (behind_kind 0x03 0x24 rest m (omega arith))
+-- and one row of postings at most stands behind them
+pub indexes_rows : (m : Content) → (scan_looks (0x20 ∷ []) m).rows ≤ 1
+indexes_rows m = subst (λ (n : ℕ). n ≤ 1) (sym (rows-scan_looks 0x20 [] m)) (at_most_one _)
 
-name_texts : (m : Content) (i name : List ℕ) → (name_looks m i name).texts ≡ 0
-name_texts m i name =
-    let rest = counted_bytes i ++ counted_bytes name in
-    texts-scan_looks 0x25 rest m ∙ ap one_if (behind_kind 0x03 0x25 rest m (omega arith))
+module _ (few : QueriesLookFew) (m : Content) where
+  meaning_texts : (i : List ℕ) (meaning : Meaning) (threshold : Option ℕ) → (meaning_looks m i meaning threshold).texts ≡ 0
+  meaning_texts i (Refuses refusal) threshold = refl
+  meaning_texts i (Finds None) threshold = refl
+  meaning_texts i (Finds (Some q)) None = refl
+  meaning_texts i (Finds (Some q)) (Some n) = (few m i q).texts
 
-none_both : (a b : ℕ) → a ≡ 0 → b ≡ 0 → a + b ≡ 0
-none_both a b first second = omega (arith, first, second)
+  meaning_rows : (i : List ℕ) (meaning : Meaning) (threshold : Option ℕ) → (meaning_looks m i meaning threshold).rows ≤ meaning_allowance m i meaning threshold
+  meaning_rows i (Refuses refusal) threshold = omega arith
+  meaning_rows i (Finds None) threshold = omega arith
+  meaning_rows i (Finds (Some q)) None = omega arith
+  meaning_rows i (Finds (Some q)) (Some n) = (few m i q).rows
 
-module _ (m : Content) (i : List ℕ) where
-  keys_texts : (stream : ℕ) (keys : List (List ℕ)) → (keys_looks m i stream keys).texts ≡ 0
-  keys_texts stream [] = refl
-  keys_texts stream (k ∷ ks) = none_both _ _ (key_texts m i stream k) (keys_texts stream ks)
+  looks_texts : (thesauri : Thesauri) (i : List ℕ) (x : Index) (s : Search) → (search_looks m thesauri i x s).texts ≡ 0
+  looks_texts thesauri i x (Contains column query label above) = meaning_texts i (meaning_of x.prefs thesauri query) (threshold_of above)
 
-  slots_texts : (ws : _) → (slots_looks m i ws).texts ≡ 0
-  slots_texts [] = refl
-  slots_texts (w ∷ ws) = none_both _ _ (keys_texts _ _) (slots_texts ws)
+  looks_rows : (thesauri : Thesauri) (i : List ℕ) (x : Index) (s : Search) → (search_looks m thesauri i x s).rows ≤ search_allowance m thesauri i x s
+  looks_rows thesauri i x (Contains column query label above) = meaning_rows i (meaning_of x.prefs thesauri query) (threshold_of above)
 
-  names_texts : (ns : List (List ℕ)) → (names_looks m i ns).texts ≡ 0
-  names_texts [] = refl
-  names_texts (n ∷ ns) = none_both _ _ (name_texts m i n) (names_texts ns)
+  -- A SEARCH LOOKS AT NO TEXT, and at no more rows than it may.
+  pub in_texts : (thesauri : Thesauri) (named : Option (List ℕ × Index)) (s : Search) → (looks_in m thesauri named s).texts ≡ 0
+  in_texts thesauri None s = refl
+  in_texts thesauri (Some named) s = looks_texts thesauri named.0 named.1 s
 
-  query_texts : (q : Reduced) → (query_looks m i q).texts ≡ 0
-  query_texts q = none_both _ _ (slots_texts (wanted_slots q)) (names_texts (section_names q))
-
-  meaning_texts : (meaning : Meaning) (threshold : Option ℕ) → (meaning_looks m i meaning threshold).texts ≡ 0
-  meaning_texts (Refuses refusal) threshold = refl
-  meaning_texts (Finds None) threshold = refl
-  meaning_texts (Finds (Some q)) None = refl
-  meaning_texts (Finds (Some q)) (Some n) = query_texts q
-
-  search_texts : (x : Index) (s : Search) → (search_looks m i x s).texts ≡ 0
-  search_texts x (Contains column query label above) = meaning_texts (meaning_of x.prefs query) (threshold_of above)
-
--- A SEARCH LOOKS AT NO TEXT.
-pub in_texts : (m : Content) (named : Option (List ℕ × Index)) (s : Search) → (looks_in m named s).texts ≡ 0
-in_texts m None s = refl
-in_texts m (Some named) s = search_texts m named.0 named.1 s
+  pub in_rows : (thesauri : Thesauri) (named : Option (List ℕ × Index)) (s : Search) → (looks_in m thesauri named s).rows ≤ allowance_in m thesauri named s
+  in_rows thesauri None s = omega arith
+  in_rows thesauri (Some named) s = looks_rows thesauri named.0 named.1 s
 
 -- ---- nothing where it is refused
 
@@ -86,5 +74,5 @@ refused_meaning : (m : Content) (i : List ℕ) (meaning : Meaning) (threshold : 
 refused_meaning m i (Refuses own) threshold refusal is = refl
 refused_meaning m i (Finds q) threshold refusal is = absurd (cc)
 
-pub refused_looks : (m : Content) (i : List ℕ) (x : Index) (s : Search) (refusal : Refusal) → search_refusal x s ≡ Some refusal → search_looks m i x s ≡ no_looks
-refused_looks m i x (Contains column query label above) refusal is = refused_meaning m i (meaning_of x.prefs query) (threshold_of above) refusal is
+pub refused_looks : (m : Content) (thesauri : Thesauri) (i : List ℕ) (x : Index) (s : Search) (refusal : Refusal) → search_refusal thesauri x s ≡ Some refusal → search_looks m thesauri i x s ≡ no_looks
+refused_looks m thesauri i x (Contains column query label above) refusal is = refused_meaning m i (meaning_of x.prefs thesauri query) (threshold_of above) refusal is

@@ -19,6 +19,7 @@ use Rattle.ix_indexes.specs.Indexes.{Index, kinds, IndexesStand}
 use Rattle.ix_indexes.specs.laws.Removing.{remove_loses, all_of_index, removals_are, told_one, none_one}
 use Rattle.tx_prefs.specs.Spelling.{PreferencesStand}
 use Rattle.tx_prefs.specs.laws.Changes.{preferences_frame, other_kinds}
+use Rattle.th_store.specs.laws.Changes.{thesauri_unchanged}
 use Rattle.db_state.specs.States.{StoreState, StandsForState, HasShortRows, indexes_on, index_limit}
 use Rattle.db_state.specs.laws.ShortRows.{rows_left}
 use Rattle.db_state.specs.laws.Removing.{fewer_kept}
@@ -49,12 +50,14 @@ dropped_stands c m i stands =
       tables = subst (λ (f : Key → Option (List ℕ)). TablesStand f m.tables) (sym (at_view ws c)) (tables_frame is_of_indexes ws (at c) m.tables (all_of_index i c) tables_no_indexes stands.tables);
       indexes = subst (λ (f : Key → Option (List ℕ)). IndexesStand f m.tables (remove m.indexes i)) (sym (at_view ws c)) (drop_stands kinds context_laws (at c) (view ws (at c)) m.tables m.indexes i (loses c m i stands) stands.indexes);
       preferences = subst (λ (f : Key → Option (List ℕ)). PreferencesStand f m.preferences) (sym (at_view ws c)) (preferences_frame is_of_indexes ws (at c) m.preferences (all_of_index i c) (other_kinds is_of_indexes refl refl refl) stands.preferences);
+      thesauri = thesauri_unchanged is_of_indexes ws c m.thesauri (all_of_index i c) refl refl stands.thesauri;
       short_rows = subst HasShortRows (sym (at_view ws c)) (rows_left (at c) (view ws (at c)) (λ k v has. told_one i c k (at c k) v has) stands.short_rows);
       state = record {
         tables = stands.state.tables;
         indexes = drop_keeps kinds context_laws m.tables m.indexes i stands.state.indexes;
         views = stands.state.views;
         preferences = stands.state.preferences;
+        thesauri = stands.state.thesauri;
         few = λ t. few_dropped m.indexes i t (stands.state.few t);
       };
     }

@@ -39,6 +39,7 @@ use Rattle.db_index.specs.Syncing.{has_too_many, with_synced}
 use Rattle.db_index.specs.Indexing.{has_index_on, has_too_many_rows, all_rows, target, with_new_index, IsFreeIndex}
 use Rattle.tx_prefs.specs.Spelling.{PreferencesStand}
 use Rattle.tx_prefs.specs.laws.Changes.{preferences_frame, other_kinds}
+use Rattle.th_store.specs.laws.Changes.{thesauri_unchanged}
 use Rattle.db_state.specs.laws.ShortRows.{rows_put}
 use Rattle.db_state.specs.laws.Kinds.{context_built, tables_no_context}
 use Rattle.db_state.specs.States.{StoreState, IsState, StandsForState, HasShortRows, indexes_on, index_limit}
@@ -85,12 +86,14 @@ synced_stands c m i x stands there few =
       tables = subst (λ (f : Key → Option (List ℕ)). TablesStand f m.tables) (sym (at_view ws c)) (tables_frame is_of_context ws (at c) m.tables (all_of_context ws are) tables_no_context stands.tables);
       indexes = subst (λ (f : Key → Option (List ℕ)). IndexesStand f m.tables (indexes_after_sync kinds tt m.tables i m.indexes)) (sym (at_view ws c)) (sync_stands kinds context_laws (at c) m.tables m.indexes tt i x there (room_left x few) stands.state.tables stands.state.indexes stands.indexes);
       preferences = subst (λ (f : Key → Option (List ℕ)). PreferencesStand f m.preferences) (sym (at_view ws c)) (preferences_frame is_of_context ws (at c) m.preferences (all_of_context ws are) (other_kinds is_of_context refl refl refl) stands.preferences);
+      thesauri = thesauri_unchanged is_of_context ws c m.thesauri (all_of_context ws are) refl refl stands.thesauri;
       short_rows = subst HasShortRows (sym (at_view ws c)) (rows_put ws (at c) are stands.short_rows);
       state = record {
         tables = stands.state.tables;
         indexes = sync_keeps kinds context_laws m.tables m.indexes tt i x there (room_left x few) stands.state.tables stands.state.indexes;
         views = stands.state.views;
         preferences = stands.state.preferences;
+        thesauri = stands.state.thesauri;
         few = λ t. subst (λ (n : ℕ). n ≤ index_limit) (sym (few_synced m.tables m.indexes i x there t)) (stands.state.few t);
       };
     }
@@ -180,12 +183,14 @@ new_index_stands c m i t x place prefs stands name are_prefs free =
       tables = subst (λ (f : Key → Option (List ℕ)). TablesStand f m.tables) (sym (at_view ws c)) (tables_frame is_of_context ws (at c) m.tables (all_of_context ws are) tables_no_context stands.tables);
       indexes = subst (λ (f : Key → Option (List ℕ)). IndexesStand f m.tables (with_index kinds all_rows tt m.tables i (target t place) prefs m.indexes)) (sym (at_view ws c)) (create_stands kinds context_laws (at c) m.tables m.indexes all_rows tt i (target t place) prefs none on are_prefs every_row room stands.state.tables stands.indexes);
       preferences = subst (λ (f : Key → Option (List ℕ)). PreferencesStand f m.preferences) (sym (at_view ws c)) (preferences_frame is_of_context ws (at c) m.preferences (all_of_context ws are) (other_kinds is_of_context refl refl refl) stands.preferences);
+      thesauri = thesauri_unchanged is_of_context ws c m.thesauri (all_of_context ws are) refl refl stands.thesauri;
       short_rows = subst HasShortRows (sym (at_view ws c)) (rows_put ws (at c) are stands.short_rows);
       state = record {
         tables = stands.state.tables;
         indexes = create_keeps kinds context_laws m.tables m.indexes all_rows tt i (target t place) prefs name none on are_prefs (column_free Context m.indexes t place taken.1) every_row room stands.state.tables stands.state.indexes;
         views = stands.state.views;
         preferences = stands.state.preferences;
+        thesauri = stands.state.thesauri;
         few = λ q. few_created m.indexes i (new_index kinds all_rows tt m.tables (target t place) prefs) none q (leb-false index_limit (length (indexes_on m.indexes t)) few.0) stands.state.few;
       };
     }

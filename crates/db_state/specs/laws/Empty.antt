@@ -18,6 +18,8 @@ use Rattle.ix_indexes.specs.Indexes.{Index, StandsUnder, IndexesStand, AreIndexe
 use Rattle.tx_settings.specs.PrefsBytes.{are_lexer_settings, settings_bytes, words_bytes, group_bytes, is_named_group}
 use Rattle.tx_prefs.specs.Spelling.{NamesStand}
 use Rattle.tx_prefs.specs.Rules.{AreNamed, are_stopwords}
+use Rattle.th_store.specs.laws.Changes.{no_thesaurus_stands}
+use Rattle.th_store.specs.laws.Rules.{no_thesauri_are}
 use Rattle.db_state.specs.States.{empty_state, StandsForState}
 
 abbrev no_content : Content
@@ -91,6 +93,7 @@ empty_stands = record {
   tables = tables_stand;
   indexes = indexes_stand;
   preferences = record { lexers = nothing_named kind.Preferences settings_bytes; stoplists = nothing_named kind.Stoplists words_bytes; groups = nothing_named kind.SectionGroups group_bytes };
+  thesauri = no_thesaurus_stands (at no_content) (λ k of. no_key k);
   short_rows = λ k v h has. let wrong : None ≡ Some v = sym (no_key k) ∙ has in absurd cc;
   state = record {
     tables = are_tables;
@@ -98,5 +101,6 @@ empty_stands = record {
     views = λ t x is. absurd (not_found t x is);
     few = λ t. let e = ap (λ (es : List (List ℕ × Index)). length (filter (λ e. same_list e.1.table t) es)) (no_entries {X = Index}) in omega (arith, e);
     preferences = record { lexers = none_named are_lexer_settings; stoplists = none_named are_stopwords; groups = none_named is_named_group };
+    thesauri = no_thesauri_are;
   };
 }

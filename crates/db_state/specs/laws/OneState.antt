@@ -1,4 +1,4 @@
--- A content stands for at most one state, but for what is wasted: its entries determine the tables, their rows, and the indexes with their marks.
+-- A content stands for at most one state, but for what is wasted: its entries determine the tables, their rows, the indexes with their marks, and the thesauri.
 use Rattle.std.specs.Prelude.{ℕ, ℤ, suc, ◌<◌, ◌≤◌, ◌≡◌, List, [], ◌∷◌, length, Option, Some, None, refl}
 use Rattle.std.specs.Option.{option_map, option_and_then}
 use Rattle.std.specs.FinMap.{get, same_map, int_cmp-IsAntisymmetric, nat_cmp-IsAntisymmetric, slice_cmp-IsAntisymmetric}
@@ -17,6 +17,7 @@ use Rattle.tb_table.specs.laws.Reading.{are_spellable, numbers_fit}
 use Rattle.ix_kinds.specs.laws.Telling.{one_indexes}
 use Rattle.ix_indexes.specs.Indexes.{kinds, IndexesStand, AreIndexes}
 use Rattle.tx_prefs.specs.laws.Values.{one_preferences}
+use Rattle.th_store.specs.laws.Changes.{one_thesauri}
 use Rattle.db_state.specs.States.{StoreState}
 use Rattle.db_state.specs.Promises.{but_wasted, but_for_waste, OneState}
 use Rattle.ix_context.specs.laws.ContextCreates.{context_laws}
@@ -116,8 +117,8 @@ module _ (f : Key → Option (List ℕ)) (ts us : Tables) (ts_stand : TablesStan
 
 -- ---- the state
 
-state_is : (m n : StoreState) → m.tables ≡ n.tables → each_value but_wasted m.indexes ≡ each_value but_wasted n.indexes → m.preferences ≡ n.preferences → but_for_waste m ≡ but_for_waste n
-state_is m n tables indexes preferences i = record { tables = tables i; indexes = indexes i; preferences = preferences i }
+state_is : (m n : StoreState) → m.tables ≡ n.tables → each_value but_wasted m.indexes ≡ each_value but_wasted n.indexes → m.preferences ≡ n.preferences → m.thesauri ≡ n.thesauri → but_for_waste m ≡ but_for_waste n
+state_is m n tables indexes preferences thesauri i = record { tables = tables i; indexes = indexes i; preferences = preferences i; thesauri = thesauri i }
 
 pub one_state : OneState
 one_state c m n first second =
@@ -127,3 +128,4 @@ one_state c m n first second =
     (subst (λ (ts : Tables). IndexesStand (at c) ts n.indexes) (sym tables) second.indexes) first.state.indexes
     (subst (λ (ts : Tables). AreIndexes ts n.indexes) (sym tables) second.state.indexes))
     (one_preferences (at c) m.preferences n.preferences first.preferences second.preferences first.state.preferences second.state.preferences)
+    (one_thesauri (at c) m.thesauri n.thesauri first.thesauri second.thesauri)

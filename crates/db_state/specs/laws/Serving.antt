@@ -7,11 +7,14 @@ use Rattle.ct_keep.specs.declared.keepers.KeepFault.TheVariants.{Memory, Disk, F
 use Rattle.ct_keep.specs.Content.{Content, after, changes_weight}
 use Rattle.ct_keep.specs.laws.Content.{weight-after_le}
 use Rattle.ct_base.specs.Told.{IsSaid}
+use Rattle.ct_entry.specs.Keys.{Key}
+use Rattle.ct_entry.specs.Changes.{spell}
 use Rattle.ct_keep.specs.KeeperViews.{AtMostOneCommit, KeeperView, SameButContent, ReadsKeeper, IsDurable, fault_of, counted, is_full, PassesLimit}
 use Rattle.ct_keep.specs.laws.Composing.{commits_read, kept_then, reads_hold, reads_on, reads_short}
 use Rattle.db_cond.specs.Faults.{Refusal, refusal_line}
 use Rattle.db_state.specs.States.{StoreState, StandsForState}
 use Rattle.db_state.specs.Effects.{Effect, Refused, Does, state_by, reply_by}
+use Rattle.db_state.specs.Lines.{call_done}
 use Rattle.db_state.specs.Plans.{DoneLines, line_for_all, GivesEffect, Returns, ReturnsBy, Fulfils, IsPlanOf, IsPlan}
 use Rattle.db_state.specs.declared.plans.Plan.{Plan}
 use Rattle.db_state.specs.declared.plans.Plan.TheVariants.{Done}
@@ -154,3 +157,8 @@ serves_counted effect done rows line old new result is serves = record {
 -- it is no heavier, so there is room for it
 pub removal_fits : (limit : ℕ) (batch : List (List ℕ × Option (List ℕ))) (c : Content) → changes_weight batch ≡ 0 → PassesLimit limit c (after batch c) → ⊥
 removal_fits limit batch c light passes = let more = weight-after_le batch c in let heavier = passes.heavier in omega (arith, more, heavier, light)
+
+-- the plan of the changes by which a content stands for a state
+pub plan_of : (effect : Effect) (c : Content) (n : StoreState) (ws : List (Key × Option (List ℕ))) (batch : List (List ℕ × Option (List ℕ)))
+    → effect ≡ Does n call_done → batch ≡ spell ws → StandsForState (after (spell ws) c) n → IsPlan effect call_done c (Done batch)
+plan_of effect c n ws batch does is stands = (n, does, subst (λ (b : List (List ℕ × Option (List ℕ))). StandsForState (after b c) n) (sym is) stands)

@@ -3,7 +3,7 @@ use Rattle.std.proofs.lemmas.Bool.{false≢true}
 use Rattle.std.proofs.lemmas.Result.{IfOk-weaker}
 use Rattle.ct_keep.specs.KeeperViews.{fault_of}
 use Rattle.st_parse.specs.declared.procedures.Procedure.{Procedure}
-use Rattle.st_parse.specs.declared.procedures.Procedure.TheVariants.{PolicyTokens, SyncIndex, Define}
+use Rattle.st_parse.specs.declared.procedures.Procedure.TheVariants.{PolicyTokens, SyncIndex, Define, Thesaurus}
 use Rattle.st_parse.specs.declared.statements.Arg.{Arg}
 use Rattle.db_state.specs.Effects.{reply_by}
 use Rattle.db_state.specs.laws.Serving.{serves_as}
@@ -42,3 +42,12 @@ returns-in-Define-clause-serves g c =
 
 pub returns-in-Define-clause-fixed : goal.returns-in-Define-clause-fixed
 returns-in-Define-clause-fixed g c = λ m fixed. absurd (false≢true (sym (ap (λ (p : Procedure). is_fixed_call p c.args.args.now) c.in-Define.is) ∙ fixed))
+
+-- ---- a thesaurus
+
+pub returns-in-Thesaurus-clause-serves : goal.returns-in-Thesaurus-clause-serves
+returns-in-Thesaurus-clause-serves g c =
+    serves_as _ _ _ _ _ _ c.call_thesaurus.result (λ m. ap (λ (p : Procedure). call m p c.args.args.now) c.in-Thesaurus.is ∙ ap (call m (Thesaurus c.in-Thesaurus.procedure)) (sym c.as_slice-in-Thesaurus.ensures)) (ap call_line c.in-Thesaurus.is) c.call_thesaurus.ensures
+
+pub returns-in-Thesaurus-clause-fixed : goal.returns-in-Thesaurus-clause-fixed
+returns-in-Thesaurus-clause-fixed g c = λ m fixed. absurd (false≢true (sym (ap (λ (p : Procedure). is_fixed_call p c.args.args.now) c.in-Thesaurus.is) ∙ fixed))

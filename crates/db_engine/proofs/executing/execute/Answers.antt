@@ -1,5 +1,7 @@
 use Rattle.std.proofs.Common.{Err, ap, Ok, refl, ◌∙◌}
 use Rattle.db_engine.proofs.Answering.{answers_full, answers_memory, answers_step, rose}
+use Rattle.db_looks.specs.laws.Composing.{over_memory, over_full}
+use Rattle.db_state.specs.States.{StandsForState}
 use Rattle.db_state.specs.laws.Returning.{kept_full, kept_memory, looks_none, returns_some, reads_memory}
 use Rattle.ct_keep.specs.declared.keepers.KeepFault.TheVariants.{Memory, Disk, Full as NoRoom}
 use Rattle.db_engine.specs.Executing.{done_line}
@@ -109,3 +111,17 @@ returns-in-Err-Full-clause-once g c = c.in-Err-Full.ensures.serves.once
 
 pub returns-in-Err-Disk-clause-once : goal.returns-in-Err-Disk-clause-once
 returns-in-Err-Disk-clause-once g c = c.in-Err-Disk.ensures.serves.once
+
+-- ---- how much it looked up
+
+pub returns-in-Ok-clause-looks : goal.returns-in-Ok-clause-looks
+returns-in-Ok-clause-looks g c = c.in-Ok.ensures.looks
+
+pub returns-in-Err-Memory-clause-looks : goal.returns-in-Err-Memory-clause-looks
+returns-in-Err-Memory-clause-looks g c = over_memory StandsForState _ _ _ (rw c.in-Err-Memory.field-0-is at c.in-Err-Memory.ensures.looks)
+
+pub returns-in-Err-Full-clause-looks : goal.returns-in-Err-Full-clause-looks
+returns-in-Err-Full-clause-looks g c = over_full StandsForState _ _ _ (rw c.in-Err-Full.field-0-is at c.in-Err-Full.ensures.looks)
+
+pub returns-in-Err-Disk-clause-looks : goal.returns-in-Err-Disk-clause-looks
+returns-in-Err-Disk-clause-looks g c = rw c.in-Err-Disk.field-0-is at c.in-Err-Disk.ensures.looks

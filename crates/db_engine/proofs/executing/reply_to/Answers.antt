@@ -3,6 +3,7 @@ use Rattle.std.proofs.Common.{ap, sym, ◌∙◌, List, Bool, Some, None, refl}
 use Rattle.std.specs.Prelude.{not}
 use Rattle.std.specs.Bool.{if◌then◌else◌}
 use Rattle.std.proofs.lemmas.Result.{err_from_is_err_and, IfOk-weaker}
+use Rattle.ct_keep.specs.KeeperViews.{fault_of}
 use Rattle.ct_keep.specs.laws.Composing.{reads_none}
 use Rattle.st_parse.specs.declared.statements.ColumnText.{ColumnText}
 use Rattle.st_parse.specs.declared.statements.Statement.{Statement}
@@ -17,8 +18,13 @@ use Rattle.db_change.specs.Deleting.{delete_from}
 use Rattle.db_change.specs.Dropping.{drop_table}
 use Rattle.db_index.specs.Dropping.{drop_index}
 use Rattle.st_parse.specs.declared.statements.Assign.{Assign}
+use Rattle.db_looks.specs.laws.Composing.{over_as, over_unsaid}
+use Rattle.db_state.specs.States.{StandsForState}
+use Rattle.db_select.specs.Looking.{select_allowance}
 use Rattle.db_select.specs.Statements.{select_statement}
+use Rattle.db_select.specs.laws.Allowing.{select_within}
 use Rattle.db_select.specs.laws.Selects.{statement_keeps}
+use Rattle.db_engine.specs.Looking.{allowance}
 use Rattle.db_engine.specs.Steps.{effect}
 use Rattle.db_engine.specs.Executing.{done_line, is_fixed}
 use Rattle.db_state.specs.laws.Serving.{serves_short, serves_look, serves_as}
@@ -99,3 +105,41 @@ returns-in_ok-fixed_reply-in-Commit-clause-fixed g c = λ m fixed. c.in_ok-fixed
 pub returns-in-Exec-clause-fixed : goal.returns-in-Exec-clause-fixed
 returns-in-Exec-clause-fixed g c = λ m fixed.
     IfOk-weaker c.call.result _ _ (λ reply says. says ∙ sym (ap (λ (s : Statement). reply_by (effect m s)) c.in-Exec.is)) (c.call.ensures.fixed m (sym (ap is_fixed c.in-Exec.is) ∙ fixed))
+
+-- ---- what it looks up, of which something is said of a search
+
+pub returns-in-Select-clause-looks : goal.returns-in-Select-clause-looks
+returns-in-Select-clause-looks g c =
+    over_as StandsForState (λ k m. select_allowance k m c.in-Select.list c.in-Select.table c.as_slice-in-Select.result.now) _ _ _ _
+    (λ k m. ap (allowance k m) c.in-Select.is ∙ ap (select_allowance k m c.in-Select.list c.in-Select.table) (sym c.as_slice-in-Select.ensures))
+    (select_within g.K.Keeper.view c.args.keeper.now c.select.new.keeper c.in-Select.list c.in-Select.table c.as_slice-in-Select.result.now (fault_of c.select.result) c.looking_law.ensures c.select.ensures.reads c.select.ensures.at_most)
+
+pub returns-in-CreateTable-clause-looks : goal.returns-in-CreateTable-clause-looks
+returns-in-CreateTable-clause-looks g c = over_unsaid StandsForState _ _ _ _ (λ k m. ap (allowance k m) c.in-CreateTable.is)
+
+pub returns-in-CreateIndex-clause-looks : goal.returns-in-CreateIndex-clause-looks
+returns-in-CreateIndex-clause-looks g c = over_unsaid StandsForState _ _ _ _ (λ k m. ap (allowance k m) c.in-CreateIndex.is)
+
+pub returns-in-Insert-clause-looks : goal.returns-in-Insert-clause-looks
+returns-in-Insert-clause-looks g c = over_unsaid StandsForState _ _ _ _ (λ k m. ap (allowance k m) c.in-Insert.is)
+
+pub returns-in-Exec-clause-looks : goal.returns-in-Exec-clause-looks
+returns-in-Exec-clause-looks g c = over_unsaid StandsForState _ _ _ _ (λ k m. ap (allowance k m) c.in-Exec.is)
+
+pub returns-in-DropTable-clause-looks : goal.returns-in-DropTable-clause-looks
+returns-in-DropTable-clause-looks g c = over_unsaid StandsForState _ _ _ _ (λ k m. ap (allowance k m) c.in-DropTable.is)
+
+pub returns-in-DropIndex-clause-looks : goal.returns-in-DropIndex-clause-looks
+returns-in-DropIndex-clause-looks g c = over_unsaid StandsForState _ _ _ _ (λ k m. ap (allowance k m) c.in-DropIndex.is)
+
+pub returns-in-Update-clause-looks : goal.returns-in-Update-clause-looks
+returns-in-Update-clause-looks g c = over_unsaid StandsForState _ _ _ _ (λ k m. ap (allowance k m) c.in-Update.is)
+
+pub returns-in-Delete-clause-looks : goal.returns-in-Delete-clause-looks
+returns-in-Delete-clause-looks g c = over_unsaid StandsForState _ _ _ _ (λ k m. ap (allowance k m) c.in-Delete.is)
+
+pub returns-in_err-fixed_reply-in-Commit-clause-looks : goal.returns-in_err-fixed_reply-in-Commit-clause-looks
+returns-in_err-fixed_reply-in-Commit-clause-looks g c = over_unsaid StandsForState _ _ _ _ (λ k m. ap (allowance k m) c.in-Commit.is)
+
+pub returns-in_ok-fixed_reply-in-Commit-clause-looks : goal.returns-in_ok-fixed_reply-in-Commit-clause-looks
+returns-in_ok-fixed_reply-in-Commit-clause-looks g c = over_unsaid StandsForState _ _ _ _ (λ k m. ap (allowance k m) c.in-Commit.is)

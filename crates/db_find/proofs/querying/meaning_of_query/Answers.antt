@@ -1,11 +1,15 @@
-use Rattle.std.proofs.Common.{rules, ◌≡◌, true}
+use Rattle.std.proofs.Common.{List, ap, subst, ◌∙◌}
 use Rattle.q_tree.specs.Trees.{tree_of}
-use Rattle.db_find.specs.Querying.{reduction_context, has_built_forms}
-use Rattle.db_find.proofs.KeysAlone.{keys_alone}
-use Rattle.db_find.proofs.Searchable.{searchable}
+use Rattle.q_reduce.specs.Results.{named_pairs}
+use Rattle.db_find.specs.Meanings.{Means}
+use Rattle.db_find.specs.Querying.{meaning_by}
+use Rattle.db_find.specs.Thesauri.{NamedPairs, thesauri_of}
 use Rattle.db_find.proofs.querying.meaning_of_query.Goals as goal
 
-pub returns-in-Ok-clause-searchable : goal.returns-in-Ok-clause-searchable
-returns-in-Ok-clause-searchable c =
-    let built : has_built_forms (tree_of c.args.query.now) ≡ true = search rules in
-    searchable c.in-Ok.found _ c.in-Ok.ensures.sound c.in-Ok.ensures.reduced.1 (keys_alone (reduction_context c.args.prefs.now) (tree_of c.args.query.now) built)
+pub returns-clause-meaning : goal.returns-clause-meaning
+returns-clause-meaning g c = λ m k holds stands.
+    let loaded =
+    ap named_pairs c.deref-2.ensures.value
+    ∙ c.in_ok-thesauri.ensures.thesauri m k holds stands
+    ∙ ap (thesauri_of m.thesauri) (c.deref.ensures.value ∙ c.in_ok-names.ensures) in
+    subst (λ (ts : List NamedPairs). Means c.in_ok-meaning.meaning (meaning_by c.args.prefs.now ts (tree_of c.args.query.now))) loaded c.in_ok-meaning.ensures.meaning

@@ -4,8 +4,9 @@ use Rattle.db_cond.specs.Faults.{BadValue}
 use Rattle.db_state.specs.Effects.{Effect}
 use Rattle.db_state.specs.Lines.{call_done}
 use Rattle.db_state.specs.Plans.{IsPlan}
+use Rattle.db_call.specs.laws.Checks.{both_there, had, is_found, not_found, not_named, not_defined}
 use Rattle.db_prefs.specs.Defining.{attribute_set}
-use Rattle.db_prefs.proofs.Effects.{attribute_passed, both_there, had, is_found, not_found, not_named, not_defined, settings_in}
+use Rattle.db_prefs.proofs.Effects.{attribute_passed, settings_in}
 use Rattle.db_prefs.proofs.attributes.attribute_plan.Goals as goal
 
 pub returns-in_default-2-clause-plan : goal.returns-in_default-2-clause-plan

@@ -8,7 +8,8 @@ use Rattle.db_state.specs.Lines.{call_done}
 use Rattle.db_state.specs.Plans.{IsPlan}
 use Rattle.db_state.specs.laws.Chains.{checked, refused, fails, passes}
 use Rattle.db_prefs.specs.Defining.{new_made}
-use Rattle.db_prefs.proofs.Effects.{create_as, create_on, is_found, not_found}
+use Rattle.db_prefs.proofs.Effects.{create_as, create_on}
+use Rattle.db_call.specs.laws.Checks.{is_found, not_found}
 use Rattle.db_prefs.proofs.creating.create_plan.Goals as goal
 
 pub returns-in-Some-clause-plan : goal.returns-in-Some-clause-plan

@@ -4,8 +4,10 @@ use Rattle.db_state.specs.Lines.{call_done}
 use Rattle.db_state.specs.Plans.{IsPlan}
 use Rattle.db_state.specs.laws.Chains.{checked}
 use Rattle.tx_tags.specs.Groups.{is_among, tag_names}
-use Rattle.db_prefs.specs.Defining.{of_both, section_added}
-use Rattle.db_prefs.proofs.Effects.{both_there, check_passed, had, section_as, section_fresh, section_on, unknown_of}
+use Rattle.db_prefs.specs.Defining.{section_added}
+use Rattle.db_call.specs.Checks.{of_both}
+use Rattle.db_prefs.proofs.Effects.{section_as, section_fresh, section_on}
+use Rattle.db_call.specs.laws.Checks.{both_there, check_passed, had, unknown_of}
 use Rattle.db_prefs.proofs.sections.section_plan.Goals as goal
 
 pub returns-clause-plan : goal.returns-clause-plan

@@ -5,7 +5,8 @@ use Rattle.db_state.specs.Lines.{call_done}
 use Rattle.db_state.specs.Plans.{IsPlan}
 use Rattle.db_state.specs.laws.Chains.{checked}
 use Rattle.db_prefs.specs.Defining.{special_added, special_of}
-use Rattle.db_prefs.proofs.Effects.{both_there, had, is_found, special_as, special_on, unknown_of}
+use Rattle.db_prefs.proofs.Effects.{special_as, special_on}
+use Rattle.db_call.specs.laws.Checks.{both_there, had, is_found, unknown_of}
 use Rattle.db_prefs.proofs.special_sections.special_plan.Goals as goal
 
 pub returns-clause-plan : goal.returns-clause-plan

@@ -9,7 +9,8 @@ use Rattle.db_state.specs.Lines.{call_done}
 use Rattle.db_state.specs.Plans.{IsPlan}
 use Rattle.db_state.specs.laws.Chains.{checked, passes}
 use Rattle.db_prefs.specs.Defining.{among, stopword_added}
-use Rattle.db_prefs.proofs.Effects.{both_there, check_passed, had, is_found, stopword_as, stopword_fresh, stopword_on, unknown_by}
+use Rattle.db_prefs.proofs.Effects.{stopword_as, stopword_fresh, stopword_on}
+use Rattle.db_call.specs.laws.Checks.{both_there, check_passed, had, is_found, unknown_by}
 use Rattle.db_prefs.proofs.stopwords.stopword_plan.Goals as goal
 
 abbrev items : Vec (List ℕ) Global → List (List ℕ)

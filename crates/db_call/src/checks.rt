@@ -1,15 +1,15 @@
-//! The checks that come first.
+//! The checks that come first in each procedure.
 
 ghost use Rattle.std.specs.Prelude.{◌≡◌};
 ghost use Rattle.std.specs.Option.{option_map};
 ghost use Rattle.db_state.specs.Effects.{Effect, Checks};
-ghost use Rattle.db_prefs.specs.Defining.{check, taken_name as name_taken, missing_name as name_unknown};
+ghost use Rattle.db_call.specs.Checks.{check, taken_name as name_taken, missing_name as name_unknown};
 
 use ct_base::Name;
 use db_cond::Fault;
 
 /// The name, where something has it.
-pub(crate) fn taken_name(there: bool, name: &Option<Name>) -> Option<&str>
+pub fn taken_name(there: bool, name: &Option<Name>) -> Option<&str>
     ensures { option_map (λ n. n.now) result ≡ name_taken there name.now }
 {
     match name {
@@ -19,7 +19,7 @@ pub(crate) fn taken_name(there: bool, name: &Option<Name>) -> Option<&str>
 }
 
 /// The name, where nothing has it.
-pub(crate) fn missing_name(there: bool, name: &Option<Name>) -> Option<&str>
+pub fn missing_name(there: bool, name: &Option<Name>) -> Option<&str>
     ensures { option_map (λ n. n.now) result ≡ name_unknown there name.now }
 {
     match name {
@@ -29,7 +29,7 @@ pub(crate) fn missing_name(there: bool, name: &Option<Name>) -> Option<&str>
 }
 
 /// The first check that fails: of a name that nothing has, of what exists already, and of the number and kinds of the arguments.
-pub(crate) fn first_fault<'a>(
+pub fn first_fault<'a>(
     unknown: Option<&'a str>,
     taken: Option<&'a str>,
     shaped: bool,

@@ -1,0 +1,55 @@
+-- What a SELECT looks up is within what it may.
+use Rattle.std.specs.Prelude.{ℕ, ◌+◌, ◌≤◌, List, [], ◌∷◌, Option, Some, None}
+use Rattle.std.specs.FinMap.{get}
+use Rattle.std.proofs.Common.{arith}
+use Rattle.ct_keep.specs.Content.{Content}
+use Rattle.ct_keep.specs.KeeperViews.{Counts, KeeperView, ReadsKeeper}
+use Rattle.ct_keep.specs.Looks.{RisesBy, scan_looks}
+use Rattle.ct_keep.specs.declared.keepers.KeepFault.{KeepFault}
+use Rattle.ct_entry.specs.declared.kinds.Kind.TheVariants as kind
+use Rattle.ct_entry.specs.Kinds.{code}
+use Rattle.st_parse.specs.declared.statements.Cond.{Cond}
+use Rattle.st_parse.specs.declared.statements.Pred.{Pred}
+use Rattle.st_parse.specs.declared.statements.SelectList.{SelectList}
+use Rattle.tb_table.specs.Tables.{Table}
+use Rattle.ix_search.specs.Looking.{QueriesLookFew}
+use Rattle.db_looks.specs.Allowances.{CountsWithin, LooksOver}
+use Rattle.db_state.specs.States.{StoreState, StandsForState}
+use Rattle.db_state.specs.Effects.{Effect, Does, Refused}
+use Rattle.db_find.specs.Looking.{looks_in}
+use Rattle.db_find.specs.Searches.{Search, search_in}
+use Rattle.db_find.specs.Seeking.{named_index}
+use Rattle.db_find.specs.laws.Looking.{in_rows, indexes_rows}
+use Rattle.db_select.specs.Looking.{LooksFew, SelectsFew, SelectsLookFew, allowance_by, index_looks, looks_by, searching_allowance, select_allowance, table_looks}
+use Rattle.db_select.specs.Predicates.{conds_in}
+use Rattle.db_select.specs.Statements.{select_statement}
+
+-- by what the statement does, and by the table, if it is there
+table_within : QueriesLookFew → (c : Content) (m : StoreState) (list : SelectList) (t : List ℕ) (conds : List Cond) (s : Search) (effect : Effect) (found : Option Table) (old new : Counts)
+    → RisesBy (looks_by effect (index_looks c) (table_looks c m t found list s conds)) old new → CountsWithin (allowance_by c m list t conds s effect found) old new
+table_within looking c m list t conds s (Refused refusal) found old new rises =
+    let rows : new.rows ≤ old.rows + (scan_looks (code kind.Indexes ∷ []) c).rows = rises.rows in
+    let few = indexes_rows c in
+    record { texts = omega (arith, rises.texts); rows = omega (arith, rows, few); rules = tt }
+table_within looking c m list t conds s (Does next reply) None old new rises = record { texts = omega (arith, rises.texts); rows = omega (arith, rises.rows); rules = tt }
+table_within looking c m list t conds s (Does next reply) (Some x) old new rises =
+    let rows : new.rows ≤ old.rows + ((scan_looks (code kind.Indexes ∷ []) c).rows + (looks_in c m.thesauri (named_index m t x.columns s) s).rows) = rises.rows in
+    let few = indexes_rows c in
+    let search = in_rows looking c m.thesauri (named_index m t x.columns s) s in
+    record { texts = rises.texts; rows = omega (arith, rows, few, search); rules = tt }
+
+few_within : QueriesLookFew → (effect : Effect) (c : Content) (m : StoreState) (list : SelectList) (t : List ℕ) (preds : List Pred) (search : Option Search) (old new : Counts)
+    → LooksFew effect c m list t preds search old new → CountsWithin (searching_allowance effect c m list t preds search) old new
+few_within looking effect c m list t preds None old new few = record { texts = tt; rows = tt; rules = tt }
+few_within looking effect c m list t preds (Some s) old new few = table_within looking c m list t (conds_in preds) s effect (get m.tables t) old new few
+
+-- WHAT A SELECT LOOKS UP is within what it may.
+pub selects_look_few : QueriesLookFew → SelectsLookFew
+selects_look_few looking c m list t preds old new few = few_within looking (select_statement m list t preds) c m list t preds (search_in preds) old new few
+
+-- The same of a keeper of which a SELECT only read.
+pub select_within : {K : Type 0} (view : K → KeeperView) (old new : K) (list : SelectList) (t : List ℕ) (preds : List Pred) (fault : Option KeepFault) → SelectsLookFew → ReadsKeeper (view old) (view new) fault
+    → SelectsFew view old new select_statement list t preds → LooksOver StandsForState (λ c m. select_allowance c m list t preds) (view old) (view new) fault
+select_within view old new list t preds fault law reads few = record {
+  within = λ m c holds stands. record { counts = law c m list t preds (view old).counts (view new).counts (few m c holds stands); unchanged = λ said. reads.content };
+}

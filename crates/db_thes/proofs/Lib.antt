@@ -1,0 +1,3 @@
+pub mod NewThesauri
+pub mod Plans
+pub mod Effects

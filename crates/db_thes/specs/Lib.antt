@@ -1,0 +1,4 @@
+pub mod Stating
+pub mod Creating
+pub mod Relating
+pub mod Calling
