@@ -22,6 +22,7 @@ from query_maker import QueryMaker
 from state import Column, Index, State, Table, Value
 from statements import TABLE_LIMIT
 from texts import WHITE_SPACE, ascii_lower, ascii_upper, is_word, tokens
+from thesauri import EXPANSION_LIMIT, RELATIONS, Pair
 from vocabulary import (
     BETWEEN_WORDS,
     BEYOND,
@@ -36,6 +37,7 @@ from vocabulary import (
     NO_JOINS,
     NO_NAMES,
     NO_STATEMENTS,
+    NO_TERMS,
     NO_UTF_8,
     NUMBERS,
     PARAMETER_LISTS,
@@ -50,6 +52,8 @@ from vocabulary import (
     STRAY,
     TABLES,
     TAGS,
+    TERMS,
+    THESAURI,
     WHOLE_TAGS,
     WORDS,
 )
@@ -183,6 +187,9 @@ class Maker:
         return self.rare_word() if self.chance(0.1) else self.spelt_otherwise(self.one_of(self.pool))
 
     def text(self) -> str:
+        terms = [term for pairs in self.state.thesauri.values() for _, *both in sorted(pairs) for term in both]
+        if terms and self.chance(0.35):
+            return self.one_of([" ", ", ", ". "]).join(self.random.choices(terms, k=self.random.choice([1, 1, 2, 3])))
         if self.chance(0.05):
             return ""
         if self.chance(0.05):
@@ -269,10 +276,19 @@ class Maker:
             return self.random.choice([self.text(), "", "a b", " quick", operator, operator.lower(), "{quick}", "a" * 4001])
         if self.chance(0.2):
             return self.searched_word(texts, index)
+        return self.query_maker(texts, index).text()
+
+    def query_of_one(self, texts: Sequence[str], index: Index | None) -> str:
+        """Returns the text of a query of one operator of a thesaurus, or of one word with wildcards."""
+        return self.query_maker(texts, index).single()
+
+    def query_maker(self, texts: Sequence[str], index: Index | None) -> QueryMaker:
         group = Group() if index is None else index.prefs.group
         there = [*(section.name for section in group.sections), *group.specials] * 10
         makers = partial(self.searched_word, texts, index), partial(self.run_of_words, texts, index)
-        return QueryMaker(self.random, *makers, [*there, "sentence", "paragraph", *SECTIONS], self.built).text()
+        sections = [*there, "sentence", "paragraph", *SECTIONS]
+        thesauri = {name: sorted(pairs) for name, pairs in self.state.thesauri.items()}
+        return QueryMaker(self.random, *makers, sections, thesauri, self.built)
 
     # statements, each as a list of lexemes
 
@@ -430,6 +446,13 @@ class Maker:
 
     def select(self) -> list[str]:
         """Returns a SELECT with CONTAINS over an indexed column, where there is one."""
+        return self.select_by(self.query)
+
+    def select_by_one(self) -> list[str]:
+        """Returns a SELECT by one operator of a thesaurus, or by one word with wildcards."""
+        return self.select_by(self.query_of_one)
+
+    def select_by(self, make_query: Callable[[Sequence[str], Index | None], str]) -> list[str]:
         if not self.state.indexes or self.goes_wrong():
             (name, table), texts, index = self.table(), [], None
             column = self.column(table)
@@ -441,7 +464,7 @@ class Maker:
         label = self.one_of([*BEYOND, "0"] if self.goes_wrong() else ["1", "1", "2", "01"])
         has_label = not self.goes_wrong()
         above = self.one_of(["-1", "101", ">", *BEYOND] if self.goes_wrong() else ["0"] * 12 + ["1", "2", "99", "100"])
-        query = quoted(self.query(texts, index))
+        query = quoted(make_query(texts, index))
         contains = ["CONTAINS", "(", column.name, ",", query, *([",", label] if has_label else []), ")", ">", above]
         conditions = [contains, *([self.condition(table)] if self.chance(0.25) else [])]
         self.random.shuffle(conditions)
@@ -566,6 +589,53 @@ class Maker:
             visibility = [self.one_of(["1", "0", "'TRUE'", "'x'", "FALSE", "TRUE"])]
         return self.call("CTX_DDL", "ADD_FIELD_SECTION", [*arguments, *visibility])
 
+    def create_thesaurus(self) -> list[str]:
+        name = self.named(self.new(self.state.thesauri, THESAURI))
+        flags = [self.one_of(["TRUE", "0", "'FALSE'", "''"]) if self.goes_wrong() else "FALSE"] if self.chance(0.3) else []
+        return self.call("CTX_THES", "CREATE_THESAURUS", [name, *flags])
+
+    def create_relation(self) -> list[str]:
+        """Relates two terms, often such as have relations already; at times two that have this one."""
+        thesauri = self.state.thesauri
+        largest = max(thesauri, key=lambda it: len(thesauri[it]), default="")
+        name = self.known([largest] if largest and self.chance(0.8) else thesauri, THESAURI)
+        pairs = sorted(thesauri.get(name, ()))
+        first, relation, second = self.term(pairs), self.one_of([*RELATIONS, "SYN", "BT", "NT"]), self.term(pairs)
+        if pairs and (self.goes_wrong() or self.chance(0.08)):
+            first, relation, second = self.relation_again(self.random.choice(pairs))
+        its_name = self.fixed(relation, "RT", "TT", "BTG", "SYN ")
+        return self.call("CTX_THES", "CREATE_RELATION", [self.named(name), quoted(first), its_name, quoted(second)])
+
+    def relation_again(self, pair: Pair) -> tuple[str, str, str]:
+        """Returns a relation that is there, as it was given or the other way round, or a second preferred term."""
+        kind, first, second = pair
+        ways = {
+            "SYN": [(first, "SYN", second), (second, "SYN", first)],
+            "BT": [(first, "BT", second), (second, "NT", first), (second, "BT", first)],
+            "PT": [(first, "PT", second), (first, "USE", second), (first, "PT", self.word()), (second, "USE", first)],
+        }
+        first, relation, second = self.random.choice(ways[kind])
+        return self.spelt_otherwise(first), relation, self.spelt_otherwise(second)
+
+    def term(self, pairs: Sequence[Pair]) -> str:
+        """Returns a term, often one of these pairs, most of the time of words of texts."""
+        if self.goes_wrong() and self.chance(0.5):
+            return self.one_of(NO_TERMS)
+        if pairs and self.chance(0.6):
+            return self.spelt_otherwise(self.one_of(self.random.choice(pairs)[1:]))
+        if self.chance(0.06):
+            return self.one_of(TERMS)
+        words = [self.word()] if self.chance(0.65) else self.words_of_some_text()
+        text = "".join(word + (" " if self.chance(0.8) else self.one_of([*WHITE_SPACE, "  ", "-"])) for word in words[:-1]) + words[-1]
+        return text if self.chance(0.9) else self.one_of([" ", "\n"]) + text + self.one_of(WHITE_SPACE)
+
+    def words_of_some_text(self) -> list[str]:
+        """Returns words that stand side by side in a text that some index has."""
+        indexes = list(self.state.indexes.values())
+        index = self.random.choice(indexes) if indexes else None
+        texts = [] if index is None else [text for _, text in self.state.synchronised_texts(index)]
+        return self.run_of_words(texts, index)
+
     def sync(self) -> list[str]:
         first = self.named(self.known(self.state.indexes, INDEXES))
         wrong_memories = ["'M'", "'16 M'", "'16MB'", "'-1K'", "'١K'", "''", "'16'", "16"]
@@ -598,8 +668,12 @@ class Maker:
             kinds += [self.create_stoplist, *[self.add_stopword] * several([1, 2, 4])]
         if self.chance(0.7):
             kinds += [self.create_group, *[self.add_section] * several([1, 2, 3, 5])]
+        relations = []
+        if "THESAURI" in self.built and self.chance(0.6):
+            relations = [self.create_thesaurus, *[self.create_relation] * several([4, 8, 16])]
+            relations += [*[self.insert] * 4, self.sync, *[self.select_by_one] * 5]
         rows = [self.insert] * several([1, 2, 4])
-        return [*kinds, *several([[*rows, self.create_index], [self.create_index, *rows, self.sync]])]
+        return [*kinds, *several([[*rows, self.create_index], [self.create_index, *rows, self.sync]]), *relations]
 
     def statement(self) -> list[str]:
         """Returns the lexemes of a statement of some kind, most of the time of one that has something to do.
@@ -637,6 +711,10 @@ class Maker:
             (self.commit, 1),
             (self.no_statement, 2),
         ]
+        if "THESAURI" in self.built:
+            kinds += [(self.create_thesaurus, 1 if self.state.thesauri else 4), (self.create_relation, 12 if self.state.thesauri else 1)]
+        if indexes and ("WILDCARDS" in self.built or self.state.thesauri):
+            kinds.append((self.select_by_one, 14))
         makes, weights = zip(*kinds)
         return self.random.choices(makes, weights)[0]()
 
@@ -696,6 +774,8 @@ class Maker:
             [*group, *fields, f"{zone}'t', 't')", f"{field}'s0', 't')", f"{field}'s0', 'u', TRUE)"],
             [*group, *(f"{zone}'s', 't{i}')" for i in range(TAG_LIMIT + 1)), f"{zone}'t', 't')", f"{zone}'s', 't0')"],
         ]
+        if "THESAURI" in self.built:
+            ways += [[f"EXEC CTX_THES.CREATE_THESAURUS('many{i}')" for i in range(LIST_LIMIT + 1)], self.many_terms()]
         statements = self.random.choice(ways)
         if self.chance(0.05):
             words = (f"EXEC CTX_DDL.ADD_STOPWORD('many', 'w{i}')" for i in range(STOPWORD_LIMIT + 1))
@@ -703,6 +783,16 @@ class Maker:
         for statement in statements:
             self.follow(statement.encode())
         return [f"{statement};\n".encode() for statement in statements]
+
+    def many_terms(self) -> list[str]:
+        """Returns statements that relate so many terms as an operator may have, and one more, with queries before the last one and behind it."""
+        table, column = "docs", "body"
+        for index in self.state.indexes.values():
+            table, column = index.table, self.state.tables[index.table].columns[index.place].name
+        queries = [f"SELECT COUNT(*) FROM {table} WHERE CONTAINS({column}, '{it}(quick, many)') > 0" for it in ("SYN", "NT", "BT")]
+        relation, level = self.one_of(["'SYN'", "'NT'"]), EXPANSION_LIMIT - 1
+        relations = [f"EXEC CTX_THES.CREATE_RELATION('many', 'quick', {relation}, 't{i}')" for i in range(level + 1)]
+        return ["EXEC CTX_THES.CREATE_THESAURUS('many')", *relations[:-1], *queries, relations[-1], *queries]
 
     def run(self, pieces: list[bytes]) -> Run:
         """Returns a run, at times without the end of the last piece, or with a `;` and no newline; at times with a low limit."""

@@ -15,8 +15,10 @@ from procedures import (
     Argument,
     Call,
     CreatePreference,
+    CreateRelation,
     CreateSectionGroup,
     CreateStoplist,
+    CreateThesaurus,
     PolicyTokens,
     SetAttribute,
     SyncIndex,
@@ -55,6 +57,8 @@ PROCEDURES: dict[tuple[str, str], tuple[str | None, type[Call]]] = {
     ("ctx_ddl", "add_field_section"): ("SECTION-GROUPS", AddFieldSection),
     ("ctx_ddl", "add_special_section"): ("SECTION-GROUPS", AddSpecialSection),
     ("ctx_ddl", "sync_index"): (None, SyncIndex),
+    ("ctx_thes", "create_thesaurus"): ("THESAURI", CreateThesaurus),
+    ("ctx_thes", "create_relation"): ("THESAURI", CreateRelation),
     ("ctx_doc", "policy_tokens"): (None, PolicyTokens),
 }
 

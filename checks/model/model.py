@@ -1,7 +1,7 @@
 #!/usr/bin/env python3
 """A plain and slow second implementation of the language of scripts.
 
-    checks/model/model.py [--without NAME,NAME] < SCRIPT
+    checks/model/model.py [--without NAME,NAME] [--with NAME,NAME] < SCRIPT
 
 It says what the program is to reply to a script over a new store that has room for everything. It shares nothing with the
 program: of each statement it collects all refusals that hold and takes the first in their order, and a search goes over all
@@ -19,13 +19,14 @@ sys.dont_write_bytecode = True  # no folder of compiled modules is left here
 
 from grammar import Parser
 from lexemes import NotUnderstood, cut
+from reduction import SEARCHES
 from state import State
 from statements import NOT_UNDERSTOOD, TOO_LONG_STATEMENT, rank
 from weights import least_weight, room
 
 # What is built, beside CREATE TABLE, CREATE INDEX, INSERT, SYNC_INDEX, POLICY_TOKENS and a SELECT of columns and scores by one
-# CONTAINS. A statement that needs anything else isn't understood. Of what queries may have that isn't always searched
-# (`reduction.SEARCHES`) wildcards, thesauri and DEFINESCORE aren't built: a query that needs one is refused by E21, at the place 1.
+# CONTAINS. A statement that needs anything else isn't understood. What queries may have that is searched only where it is built
+# has names too (`reduction.SEARCHES`): a query that needs one that isn't built is refused by E21, at the place 1.
 BUILT = frozenset({
     "UPDATE",
     "DELETE",
@@ -44,6 +45,9 @@ BUILT = frozenset({
     "PHRASES",
     "NEAR",
     "WITHIN",
+    "THESAURI",  # CREATE_THESAURUS, CREATE_RELATION, and the operators of queries
+    "WILDCARDS",
+    "DEFINESCORE",
 })
 
 STATEMENT_LIMIT = 65_536
@@ -111,24 +115,30 @@ def replies(script: bytes, built: frozenset[str] = BUILT) -> Iterator[str]:
 
 
 def features(text: str) -> frozenset[str]:
-    """Returns what is built without the features that the text names."""
+    """Returns the features that a text names."""
     names = frozenset(text.split(",")) - {""}
-    if not names <= BUILT:
-        raise argparse.ArgumentTypeError(f"known are {', '.join(sorted(BUILT))}")
-    return BUILT - names
+    if not names <= BUILT | SEARCHES:
+        raise argparse.ArgumentTypeError(f"known are {', '.join(sorted(BUILT | SEARCHES))}")
+    return names
 
 
-def add_without(arguments: argparse.ArgumentParser) -> None:
-    """Adds the option that turns features off."""
-    arguments.add_argument(
-        "--without", dest="built", metavar="NAME,NAME", type=features, default=BUILT, help="features that aren't understood"
-    )
+def add_features(arguments: argparse.ArgumentParser) -> None:
+    """Adds the options that turn features off and on."""
+    none: frozenset[str] = frozenset()
+    for option, meaning in (("--without", "features that aren't built"), ("--with", "features that are built, too")):
+        arguments.add_argument(option, metavar="NAME,NAME", type=features, default=none, help=meaning)
+
+
+def built_by(chosen: argparse.Namespace) -> frozenset[str]:
+    """Returns the features that are built, by the options that were given."""
+    options: dict[str, frozenset[str]] = vars(chosen)
+    return (BUILT | options["with"]) - options["without"]
 
 
 def main() -> None:
     arguments = argparse.ArgumentParser(description="says what the program is to reply to a script over a new store")
-    add_without(arguments)
-    built = arguments.parse_args().built
+    add_features(arguments)
+    built = built_by(arguments.parse_args())
     for reply in replies(sys.stdin.buffer.read(), built):
         sys.stdout.buffer.write(reply.encode())
 

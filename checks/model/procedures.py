@@ -26,8 +26,9 @@ from statements import (
     unknown,
 )
 from texts import DEFAULT_OPTIONS, ascii_lower, ascii_upper, tokens
+from thesauri import PAIR_LIMIT, Pair, has, pair_of, term_of
 
-LIST_LIMIT = 256  # of preferences, of stoplists and of section groups
+LIST_LIMIT = 256  # of preferences, of stoplists, of section groups and of thesauri
 STOPWORD_LIMIT = 4096
 STOPWORD_SIZE = 64
 ZONE_LIMIT = 64
@@ -249,6 +250,59 @@ class AddSpecialSection(Call):
     def effect(self, state: State) -> str:
         group = state.groups[self.name(0) or ""]
         state.groups[self.name(0) or ""] = replace(group, specials=group.specials | {self.special})
+        return DONE
+
+
+class CreateThesaurus(Call):
+    """Makes a thesaurus. FALSE says that case doesn't count in its terms, which is so anyway."""
+
+    def refusals(self, state: State) -> Refusals:
+        name, flags = self.name(0), self.arguments[1:]
+        if name is not None and name in state.thesauri:
+            yield exists(name)
+        if self.text(0) is None or len(flags) > 1 or not all(isinstance(flag, bool) for flag in flags):
+            yield WRONG_VALUES
+            return
+        if name is None or any(flags):
+            yield BAD_VALUE
+        if len(state.thesauri) >= LIST_LIMIT:
+            yield LIMIT_REACHED
+
+    def effect(self, state: State) -> str:
+        state.thesauri[self.name(0) or ""] = frozenset()
+        return DONE
+
+
+class CreateRelation(Call):
+    """Relates two terms. One that has a preferred term gets no second one."""
+
+    @property
+    def first(self) -> str | None:
+        """Returns the first term, if there is one."""
+        return term_of(self.text(1) or "")
+
+    @property
+    def pair(self) -> Pair | None:
+        """Returns the pair that is to be added, where there are two terms and the relation is one."""
+        second = term_of(self.text(3) or "")
+        return None if self.first is None or second is None else pair_of(self.first, ascii_upper(self.text(2) or ""), second)
+
+    def refusals(self, state: State) -> Refusals:
+        yield from self.unknown_name(0, state.thesauri)
+        thesaurus = state.thesauri.get(self.name(0) or "", frozenset())
+        if self.has_texts(4) and self.first is not None and self.pair is not None and has(thesaurus, self.pair):
+            yield exists(printed(self.first))
+        if not self.has_texts(4):
+            yield WRONG_VALUES
+            return
+        if self.name(0) is None or self.pair is None:
+            yield BAD_VALUE
+        if len(thesaurus) >= PAIR_LIMIT:
+            yield LIMIT_REACHED
+
+    def effect(self, state: State) -> str:
+        assert self.pair is not None
+        state.thesauri[self.name(0) or ""] |= {self.pair}
         return DONE
 
 

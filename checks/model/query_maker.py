@@ -3,11 +3,12 @@
 from __future__ import annotations
 
 import random
-from collections.abc import Callable, Sequence
+from collections.abc import Callable, Iterator, Mapping, Sequence
 from dataclasses import dataclass
 
 from queries import (
     BYTE_LIMIT,
+    DEFAULT_THESAURUS,
     FUNCTIONS,
     LEXEME_LIMIT,
     OPEN_LIMIT,
@@ -20,6 +21,7 @@ from queries import (
     is_plain,
 )
 from texts import WHITE_SPACE, ascii_lower, ascii_upper
+from thesauri import Pair
 
 # how tightly each operator binds. What is looser than it should be where it stands is put in parentheses
 LOOSE, AND, WITHIN, NOT, MINUS, CHANGED, NEAR, TERM = range(1, 9)
@@ -31,6 +33,7 @@ THRESHOLDS = (["0", "0", "1", "1", "2", "5", "99", "100", "007"], ["101", "1.0",
 SPANS = (["0", "1", "2", "3", "5", "20", "100"], ["101", "x", "TRUE", "2.0"])
 LEVELS = (["1", "2", "99", "02"], ["0", "100", "9x", "{2}", "é"])
 SUM_NUMBERS = (["0", "1", "2", "5", "10", "1000", "OCCURRENCE", "Discrete"], ["1001", "x", "1+1", "2.5", "+", "%", *UNSCORED])
+OPERATORS_OF_THESAURI = ("SYN", "PT", "BT", "NT")
 NAMES = (["th", "default", "s" * 30, "my_th", "TRUE"], ["s" * 31, "{th}", "5", "é", "near", "th%"])
 STRAY = [
     *SIGNS, *REFUSED_SIGNS, "{", "}", "\\", "{a", "a}", "%", "_", "{}", "accum", "AND", "or", "WITHIN", "near", "NEAR ( (", "5", "0.1", "101", ".", "é", "日本 ",
@@ -67,12 +70,14 @@ class QueryMaker:
         word: Callable[[], str],
         run_of_words: Callable[[], list[str]],
         sections: Sequence[str],
+        thesauri: Mapping[str, Sequence[Pair]],
         built: frozenset[str],
     ) -> None:
         self.random = chooser
         self.word = word
         self.run_of_words = run_of_words
         self.sections = sections
+        self.thesauri = thesauri
         self.built = built
         self.wrong = chooser.choice([0, 0, 0, 0, 0, 0.05, 0.15])  # how often a choice goes wrong
 
@@ -83,6 +88,9 @@ class QueryMaker:
         return self.random.choice(items)
 
     def weight(self, feature: str) -> int:
+        """Returns how often a feature is to be used. Without a thesaurus its operators are refused, and so are seldom made."""
+        if feature == "THESAURI":
+            return 15 if self.thesauri else 1
         return 6 if feature in self.built else 1
 
     def of_range(self, choices: tuple[list[str], list[str]]) -> str:
@@ -109,7 +117,11 @@ class QueryMaker:
         word = self.word()
         at = self.random.randrange(len(word) + 1)
         begin, end = self.written(word[:at]) if at else "", self.written(word[at + 1 :]) if word[at + 1 :] else ""
-        return self.one_of(["%", begin + "%", begin + "%" + end, begin + "_" + end, "%" + end, "_" + end, begin + "__%", "%%"])
+        forms = ["%", begin + "%", begin + "%" + end, begin + "_" + end, "%" + end, "_" + end, begin + "__%", "%%"]
+        if "WILDCARDS" in self.built:
+            size = max(0, len(word) - at + self.random.choice([-1, 0, 0, 1]))
+            forms += [begin + "_" * size, "%_" + end, begin + "%_%" + end, "_" * self.random.choice([1, 2, 3, len(word)]), "%" + begin]
+        return self.one_of([form for form in forms if form])
 
     def slot(self) -> list[str]:
         count = self.random.choice([1] * 8 + [2, 2, 3])
@@ -129,12 +141,41 @@ class QueryMaker:
         return [lexeme for _ in range(self.random.choice([2, 2, 3])) for lexeme in self.slot()]
 
     def expansion(self) -> list[str]:
-        function = self.one_of(["SYN", "PT", "BT", "NT"])
-        words = [self.written(self.word()) for _ in range(self.random.choice([1, 1, 2]))]
+        function, term = self.one_of(OPERATORS_OF_THESAURI), ""
+        thesaurus = self.one_of(list(self.thesauri)) if self.thesauri and self.chance(0.9) else None
+        related = [name for name, pairs in self.thesauri.items() if pairs]
+        if thesaurus is not None and related and self.chance(0.9):
+            thesaurus = self.one_of(related)
+            function, term = self.begin_of(self.random.choice(self.thesauri[thesaurus]))
+        words = [self.written(word) for word in self.words_of_term(term)]
         is_leveled = function in ("BT", "NT") and self.chance(0.6) or self.chance(self.wrong)
         level = [",", self.of_range(LEVELS)] if is_leveled else []
-        name = [",", self.of_range(NAMES)] if self.chance(0.5) else []
+        name = self.named(thesaurus)
         return [self.cased(function), "(", *words, *level, *name, ")"]
+
+    def begin_of(self, pair: Pair) -> tuple[str, str]:
+        """Returns an operator and a term, most of the time such as lead to another term by this pair."""
+        kind, first, second = pair
+        if self.chance(0.15):
+            return self.one_of(OPERATORS_OF_THESAURI), self.one_of([first, second])
+        if kind == "PT" or kind == "BT" and self.chance(0.5):
+            return kind, first
+        return ("NT", second) if kind == "BT" else (kind, self.one_of([first, second]))
+
+    def words_of_term(self, term: str) -> Iterator[str]:
+        """Yields the words of a term, or where it is empty some words."""
+        if term:
+            cased = self.random.choice([str, str, str.upper, str.title])(term)
+            yield from cased.split(" ") if self.chance(0.8) else [cased]
+            return
+        for _ in range(self.random.choice([1, 1, 2])):
+            yield self.word()
+
+    def named(self, thesaurus: str | None) -> list[str]:
+        """Returns the argument that names a thesaurus, or none, where that may be left out, or any may be named."""
+        if thesaurus is None or self.chance(self.wrong):
+            return [",", self.of_range(NAMES)] if self.chance(0.5) else []
+        return [] if thesaurus == DEFAULT_THESAURUS and self.chance(0.7) else [",", self.cased(thesaurus)]
 
     def term(self) -> list[str]:
         return self.expansion() if self.chance(0.01 * self.weight("THESAURI")) else self.phrase()
@@ -205,6 +246,8 @@ class QueryMaker:
     def scored(self, _: int) -> Made:
         operators = self.random.choice([0, 1, 1, 2, 3, OPERATOR_LIMIT, OPERATOR_LIMIT + self.chance(self.wrong)])
         operand = self.terms(self.random.choice([1, 1, 2])).lexemes
+        if "DEFINESCORE" in self.built and self.chance(0.15):
+            operand = [*operand, self.operator("OR"), *operand]
         return Made([self.cased("DEFINESCORE"), "(", *operand, ",", *self.sum(operators), ")"], NEAR)
 
     def sum(self, operators: int) -> list[str]:
@@ -245,6 +288,12 @@ class QueryMaker:
             word + " *1" * (LEXEME_LIMIT // 2 - 1 + more),
             f"{word} = {word}" + ")" * (LEXEME_LIMIT - 3 + more),
         ])
+
+    def single(self) -> str:
+        """Returns a text of one operator of a thesaurus, or of one word with wildcards."""
+        has_patterns = "WILDCARDS" in self.built
+        is_expansion = not has_patterns or bool(self.thesauri) and self.chance(0.6)
+        return self.spelt(self.expansion() if is_expansion else [self.pattern()])
 
     def text(self) -> str:
         if self.chance(0.005):

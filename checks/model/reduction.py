@@ -1,16 +1,16 @@
-"""Reduction: what a query text is to an index, by its lexer, its stopwords and its sections; or its first fault."""
+"""Reduction: what a query text is to an index, by its lexer, its stopwords, its sections and the thesauri; or its first fault."""
 
 from __future__ import annotations
 
-from collections.abc import Iterable, Iterator
-from dataclasses import dataclass
-from functools import lru_cache
+from collections.abc import Iterable, Iterator, Mapping
+from dataclasses import dataclass, field
 from typing import Literal
 
 import queries
 from documents import MAIN_STREAM, Prefs
 from queries import Bit, Expansion, Fault, Joined, Leaf, Query, Scored, Step, Weighted, Wildcard, Word, read
 from texts import key_of, tokens
+from thesauri import EXPANSION_LIMIT, Thesaurus, expansion, term_of
 
 # What queries may have that is read, and is searched only where it is built (`model.BUILT`). The last two are told by the reduced query
 # alone: that there are several words to search for, or a weight or threshold; and that words are to stand side by side.
@@ -24,6 +24,14 @@ class NotSearched(Exception):
         super().__init__(text)
         self.number = number
         self.text = text
+
+
+@dataclass(frozen=True)
+class Context:
+    """What a query is reduced by: what an index has copied, and the thesauri that there are."""
+
+    prefs: Prefs = Prefs()
+    thesauri: Mapping[str, Thesaurus] = field(default_factory=dict)
 
 
 # Reduced queries
@@ -125,12 +133,15 @@ def fits(pattern: Pattern, key: str) -> bool:
     return len(key) in ends
 
 
+def slots_of_text(text: str, prefs: Prefs) -> list[Slot]:
+    """Returns a slot for each token of a text. That of a stopword takes any word."""
+    keys = [token.key for token in tokens(text, prefs.lexer)]
+    return [AnyWord() if key in prefs.stop_keys else Takes(frozenset([key]), ()) for key in keys]
+
+
 def slots_of_word(word: Word, prefs: Prefs) -> list[Slot]:
     """Returns a slot for each token of a word, or one with the pattern of a word with wildcards."""
-    if word.has_wildcard:
-        return [Takes(frozenset(), (pattern_of(word, prefs),))]
-    keys = [token.key for token in tokens(word.text, prefs.lexer)]
-    return [AnyWord() if key in prefs.stop_keys else Takes(frozenset([key]), ()) for key in keys]
+    return [Takes(frozenset(), (pattern_of(word, prefs),))] if word.has_wildcard else slots_of_text(word.text, prefs)
 
 
 def slot_of_words(words: Iterable[Word], prefs: Prefs) -> Slot:
@@ -148,63 +159,78 @@ def slot_of_words(words: Iterable[Word], prefs: Prefs) -> Slot:
     return Takes(frozenset(keys), tuple(patterns)) if keys or patterns else AnyWord()
 
 
-def phrase_of(leaf: Leaf, prefs: Prefs) -> Phrase:
+def trimmed(slots: list[Slot]) -> Phrase:
     """Returns the slots of a phrase, from the first to the last one that doesn't take any word."""
-    if isinstance(leaf, Expansion):
-        raise NotImplementedError("thesauri aren't built")
-    slots: list[Slot] = []
-    for words in leaf.slots:
-        slots += slots_of_word(words[0], prefs) if len(words) == 1 else [slot_of_words(words, prefs)]
     told = [place for place, slot in enumerate(slots) if isinstance(slot, Takes)]
     return tuple(slots[told[0] : told[-1] + 1]) if told else ()
 
 
-def term_of(its_leaves: Iterable[Leaf], prefs: Prefs) -> Term | None:
+def terms_of(leaf: Expansion, thesauri: Mapping[str, Thesaurus]) -> list[str]:
+    """Returns the terms that a thesaurus has for one, none where the words are none: they are empty or too long."""
+    thesaurus = thesauri.get(leaf.thesaurus)
+    if thesaurus is None:
+        raise NotSearched(25, f"unknown thesaurus {leaf.thesaurus}")
+    term = term_of(" ".join(word.text for word in leaf.words))
+    terms = [] if term is None else expansion(thesaurus, leaf.relation, term, leaf.level)
+    if len(terms) > EXPANSION_LIMIT:
+        raise NotSearched(28, "too many expanded terms")
+    return terms
+
+
+def phrases_of(leaf: Leaf, context: Context) -> list[Phrase]:
+    """Returns a phrase, or those of the terms that a thesaurus has for one, each of its tokens."""
+    if isinstance(leaf, Expansion):
+        return [trimmed(slots_of_text(term, context.prefs)) for term in terms_of(leaf, context.thesauri)]
+    slots: list[Slot] = []
+    for words in leaf.slots:
+        slots += slots_of_word(words[0], context.prefs) if len(words) == 1 else [slot_of_words(words, context.prefs)]
+    return [trimmed(slots)]
+
+
+def term_of_leaves(its_leaves: Iterable[Leaf], context: Context) -> Term | None:
     """Returns the term of several phrases, those without slots left out, or None where none is left."""
-    phrases = [phrase_of(leaf, prefs) for leaf in its_leaves]
-    kept = tuple(phrase for phrase in phrases if phrase)
+    kept = tuple(phrase for leaf in its_leaves for phrase in phrases_of(leaf, context) if phrase)
     return Term(kept) if kept else None
 
 
 # Queries
 
 
-@lru_cache(maxsize=4096)
-def reduced(query: Query, prefs: Prefs) -> Flat | None:
-    """Returns what a query is to an index with these preferences, or None where it finds nothing."""
-    return reduced_within(query, prefs, is_inside=False)
+def reduced(query: Query, context: Context) -> Flat | None:
+    """Returns what a query is in this context, or None where it finds nothing."""
+    return reduced_within(query, context, is_inside=False)
 
 
-def reduced_within(query: Query, prefs: Prefs, is_inside: bool) -> Flat | None:
+def reduced_within(query: Query, context: Context, is_inside: bool) -> Flat | None:
     """Reduces a query, which stands inside a WITHIN or doesn't. Its parts are looked at in the order of the text."""
     if isinstance(query, Joined):
-        return joined(query, prefs, is_inside)
+        return joined(query, context, is_inside)
     if isinstance(query, queries.Near):
-        return near(query, prefs)
+        return near(query, context)
     if isinstance(query, Scored):
-        term = term_of(query.operand, prefs)
+        term = term_of_leaves(query.operand, context)
         return None if term is None else Define(term, query.steps)
     if isinstance(query, queries.Within):
-        inner = reduced_within(query.inner, prefs, is_inside=True)
-        return within(query.section, inner, prefs, is_inside)
+        inner = reduced_within(query.inner, context, is_inside=True)
+        return within(query.section, inner, context.prefs, is_inside)
     if isinstance(query, (Weighted, queries.Above)):
-        inner = reduced_within(query.inner, prefs, is_inside)
+        inner = reduced_within(query.inner, context, is_inside)
         if inner is None:
             return None
         return Weight(query.tenths, inner) if isinstance(query, Weighted) else Above(query.number, inner)
-    return term_of([query], prefs)
+    return term_of_leaves([query], context)
 
 
-def joined(query: Joined, prefs: Prefs, is_inside: bool) -> Flat | None:
-    left = reduced_within(query.left, prefs, is_inside)
-    right = reduced_within(query.right, prefs, is_inside)
+def joined(query: Joined, context: Context, is_inside: bool) -> Flat | None:
+    left = reduced_within(query.left, context, is_inside)
+    right = reduced_within(query.right, context, is_inside)
     if left is not None and right is not None:
         return Both(query.operator, left, right)
     return right if left is None and query.operator in ("OR", "AND") else left
 
 
-def near(query: queries.Near, prefs: Prefs) -> Flat | None:
-    terms = [term_of(operand, prefs) for operand in query.operands]
+def near(query: queries.Near, context: Context) -> Flat | None:
+    terms = [term_of_leaves(operand, context) for operand in query.operands]
     kept = tuple(term for term in terms if term is not None)
     if len(kept) > 1:
         return Near(kept, query.span, query.is_ordered)
@@ -290,8 +316,8 @@ FAULT_TEXTS = {
 }
 
 
-def searched(text: str, prefs: Prefs, unbuilt: frozenset[str] = frozenset()) -> Flat | None:
-    """Returns the query that a text is to an index, or None where it finds nothing.
+def searched(text: str, context: Context, unbuilt: frozenset[str] = frozenset()) -> Flat | None:
+    """Returns the query that a text is in a context, or None where it finds nothing.
 
     A query with something that isn't built is refused as a whole: behind the faults of its text, and where only the reduced query has
     it, behind those of its reduction.
@@ -301,7 +327,7 @@ def searched(text: str, prefs: Prefs, unbuilt: frozenset[str] = frozenset()) -> 
         raise NotSearched(query.number, FAULT_TEXTS[query.number].format(query.place))
     if searches_of(query) & unbuilt:
         raise NotSearched(21, FAULT_TEXTS[21].format(1))
-    flat = reduced(query, prefs)
+    flat = reduced(query, context)
     if flat is not None and searches_of_reduced(flat) & unbuilt:
         raise NotSearched(21, FAULT_TEXTS[21].format(1))
     return flat

@@ -4,8 +4,8 @@
     checks/model/rows.py
 
 The lines up to one that ends with `;` are a statement, and those up to the next statement are its reply, which was worked out by
-hand. [ok] is the reply of a procedure, and [none] that of a search without rows. Each example runs over a new store. Those of LATER need
-what queries may not have yet, and are run as if it was built.
+hand. [ok] is the reply of a procedure, and [none] that of a search without rows. Each example runs over a new store. Those of LATER are
+run as if wildcards and DEFINESCORE were built, and those of UNBUILT as if they weren't.
 """
 
 from __future__ import annotations
@@ -16,7 +16,6 @@ import sys
 sys.dont_write_bytecode = True  # no folder of compiled modules is left here
 
 from model import BUILT, replies
-from reduction import SEARCHES
 
 SHORT = {"[ok]": "PL/SQL procedure successfully completed.", "[none]": "no rows selected"}
 STATEMENT = re.compile(r"(?:EXEC|CREATE|INSERT|SELECT|UPDATE|DELETE) .*?;\n", re.DOTALL)
@@ -31,6 +30,10 @@ SYNC = "EXEC CTX_DDL.SYNC_INDEX('di');\n[ok]\n"
 
 def index(parameters: str) -> str:
     return f"CREATE INDEX di ON docs(body) INDEXTYPE IS CTXSYS.CONTEXT PARAMETERS ('{parameters}');\nIndex created.\n"
+
+
+def relate(first: str, relation: str, second: str, reply: str = "[ok]", thesaurus: str = "th") -> str:
+    return f"EXEC CTX_THES.CREATE_RELATION('{thesaurus}','{first}','{relation}','{second}');\n{reply}\n"
 
 
 def search(query: str, *lines: str) -> str:
@@ -48,6 +51,7 @@ def table_of(*texts: str, parameters: str = "") -> str:
     return "".join([TABLE, index(parameters), *rows, SYNC])
 
 
+NEXT = frozenset({"WILDCARDS", "DEFINESCORE"})
 NOT_SEARCHED = "E21: operator not in profile at 1"
 SECTIONS = """\
 EXEC CTX_DDL.CREATE_SECTION_GROUP('g','BASIC_SECTION_GROUP');
@@ -320,17 +324,6 @@ EXEC CTX_DDL.ADD_SPECIAL_SECTION('g','SENTENCE');
     + search("web\\-site = shop", "E29: not one word at 1")
     + search("shop = {web-site} AND {a-b} = c", "E29: not one word at 8")
     + search("x AND (shop OR a = .)", "E29: not one word at 20"),
-    "what isn't searched yet is refused behind the faults of the text, and before those of its reduction": table_of("quick fox quick")
-    + search("qu%", NOT_SEARCHED)
-    + search("SYN(quick)", NOT_SEARCHED)
-    + search("DEFINESCORE(quick, 5)", NOT_SEARCHED)
-    + search("fox AND NEAR((quick, f_x))", NOT_SEARCHED)
-    + search("qu% = {a-b}", NOT_SEARCHED)
-    + search("qu% WITHIN nope", NOT_SEARCHED)
-    + search("qu% )", "E20: query syntax at 5")
-    + search("quick fox | a={a-b}", "E29: not one word at 15")
-    + search("quick NOT a={a-b}", "E29: not one word at 13")
-    + search("quick WITHIN nope", "E23: unknown section nope"),
     "a catalogue": """\
 EXEC CTX_DDL.CREATE_SECTION_GROUP('g','BASIC_SECTION_GROUP');
 [ok]
@@ -356,6 +349,72 @@ EXEC CTX_DDL.ADD_SPECIAL_SECTION('g','SENTENCE');
     + count("green", 0)
     + SYNC
     + count("green", 100),
+    "terms that are reached from each other": """\
+EXEC CTX_THES.CREATE_THESAURUS('th');
+[ok]
+"""
+    + relate("dog", "BT", "animal")
+    + relate("animal", "BT", "dog")
+    + relate("ANIMAL", "NT", " Dog", "E12: animal exists already")
+    + table_of("dog", "animal", "cat")
+    + search("BT(dog,5,th)", "1|1", "2|1")
+    + search("BT(dog,1,nope)", "E25: unknown thesaurus nope")
+    + search("SYN(dog)", "E25: unknown thesaurus default")
+    + search("PT(dog,th) | cat", "1|1", "3|1")
+    + relate("dog", "USE", "cat")
+    + relate("dog", "PT", "animal", "E12: dog exists already")
+    + search("PT(dog,th)", "3|1")
+    + search("SYN({},th)"),
+    "1024 terms at most": """\
+EXEC CTX_THES.CREATE_THESAURUS('th');
+[ok]
+"""
+    + "".join(relate("top", "NT", f"m{i}") for i in range(1, 33))
+    + "".join(relate(f"k{i}x{j}", "BT", f"m{i}") for i in range(1, 32) for j in range(1, 33) if (i, j) != (7, 7))
+    + "".join(relate("hub", "SYN", f"t{i}") for i in range(1, 1025))
+    + table_of("m3", "top top", "k31x32")
+    + search("NT(top,th)", "1|1", "2|2")
+    + search("NT(top,2,th)", "1|1", "2|2", "3|1")
+    + relate("k7x8", "BT", "m9")
+    + search("NT(top,2,th)", "1|1", "2|2", "3|1")
+    + relate("k7x7", "BT", "m7")
+    + search("NT(top,1,th)", "1|1", "2|2")
+    + search("NT(top,2,th)", "E28: too many expanded terms")
+    + search("BT(k31x32,99,th)", "2|2", "3|1")
+    + search("SYN(hub,th)", "E28: too many expanded terms")
+    + search("top = {a-b} | SYN(t9,th)", "E29: not one word at 7")
+    + search("SYN(t9,th) | top = {a-b}", "E28: too many expanded terms")
+    + search("SYN(top,th)", "2|2"),
+    "10,000 pairs in a thesaurus at most": """\
+EXEC CTX_THES.CREATE_THESAURUS('th');
+[ok]
+EXEC CTX_THES.CREATE_THESAURUS('other',FALSE);
+[ok]
+"""
+    + relate("a", "PT", "b")
+    + "".join(relate("a", "BT", f"b{i}") for i in range(2, 10_001))
+    + relate("b", "SYN", "a", "E31: limit reached")
+    + relate("A", "USE", "c", "E12: a exists already")
+    + relate("b7", "NT", "a", "E12: b7 exists already")
+    + relate("b7", "XT", "a", "E30: bad attribute or value")
+    + relate("c", "PT", "a", "E31: limit reached")
+    + relate("b", "SYN", "a", thesaurus="other")
+    + table_of("a", "b")
+    + search("PT(a,th)", "2|1")
+    + search("SYN(a,other)", "1|1", "2|1"),
+}
+
+UNBUILT = {
+    "what isn't searched yet is refused behind the faults of the text, and before those of its reduction": table_of("quick fox quick")
+    + search("qu%", NOT_SEARCHED)
+    + search("DEFINESCORE(quick, 5)", NOT_SEARCHED)
+    + search("fox AND NEAR((quick, f_x))", NOT_SEARCHED)
+    + search("qu% = {a-b}", NOT_SEARCHED)
+    + search("qu% WITHIN nope", NOT_SEARCHED)
+    + search("qu% )", "E20: query syntax at 5")
+    + search("quick fox | a={a-b}", "E29: not one word at 15")
+    + search("quick NOT a={a-b}", "E29: not one word at 13")
+    + search("quick WITHIN nope", "E23: unknown section nope"),
 }
 
 LATER = {
@@ -404,9 +463,10 @@ def differing(name: str, example: str, built: frozenset[str]) -> int:
 
 
 def main() -> int:
-    total = sum(differing(name, example, BUILT) for name, example in EXAMPLES.items())
-    total += sum(differing(name, example, BUILT | SEARCHES) for name, example in LATER.items())
-    print(f"{len(EXAMPLES) + len(LATER)} examples, {total} replies that differ")
+    kinds = [(EXAMPLES, BUILT), (LATER, BUILT | NEXT), (UNBUILT, BUILT - NEXT)]
+    cases = [(name, example, built) for examples, built in kinds for name, example in examples.items()]
+    total = sum(differing(*case) for case in cases)
+    print(f"{len(cases)} examples, {total} replies that differ")
     return 1 if total else 0
 
 

@@ -3,6 +3,7 @@
 from __future__ import annotations
 
 from dataclasses import dataclass
+from functools import lru_cache
 
 from documents import MAIN_STREAM, Document
 from reduction import Above, AnyWord, Both, Define, Flat, Near, Phrase, Slot, Term, Weight, Within, fits
@@ -87,6 +88,7 @@ def is_near_from(first: int, flat: Near, spans: list[list[Span]]) -> bool:
     return True
 
 
+@lru_cache(maxsize=4096)  # of WITHIN in WITHIN the inner one is asked for over one range by each instance around it
 def score_within(flat: Within, where: Range) -> int:
     """Returns the score in a field's stream, or the greatest one in an instance of a section."""
     if flat.stream is not None:

@@ -1,4 +1,4 @@
-"""The state that statements lead from and to: tables with their rows, preferences, and indexes."""
+"""The state that statements lead from and to: tables with their rows, preferences, thesauri, and indexes."""
 
 from __future__ import annotations
 
@@ -8,6 +8,7 @@ from typing import Literal
 
 from documents import Group, Prefs
 from lexemes import Beyond, Whole
+from thesauri import Thesaurus
 
 TEXT_LIMIT = 4000
 
@@ -64,13 +65,14 @@ class State:
     preferences: dict[str, dict[str, str]] = field(default_factory=dict)  # the values of attributes
     stoplists: dict[str, frozenset[str]] = field(default_factory=dict)
     groups: dict[str, Group] = field(default_factory=dict)
+    thesauri: dict[str, Thesaurus] = field(default_factory=dict)
     indexes: dict[str, Index] = field(default_factory=dict)
 
     def copy(self) -> State:
         tables = {name: replace(table, rows=dict(table.rows)) for name, table in self.tables.items()}
         preferences = {name: dict(preference) for name, preference in self.preferences.items()}
         indexes = {name: replace(index, pending=set(index.pending), lost=list(index.lost)) for name, index in self.indexes.items()}
-        return State(tables, preferences, dict(self.stoplists), dict(self.groups), indexes)
+        return State(tables, preferences, dict(self.stoplists), dict(self.groups), dict(self.thesauri), indexes)
 
     def indexes_of(self, table: str) -> list[Index]:
         return [index for index in self.indexes.values() if index.table == table]

@@ -12,7 +12,7 @@ from typing import Literal
 from documents import Group, Prefs, document
 from lexemes import Beyond, Whole, is_name
 from preferences import lexer_options, stop_keys
-from reduction import NotSearched, searched
+from reduction import Context, NotSearched, searched
 from scores import score
 from state import TEXT_LIMIT, Column, Index, Operand, State, Table, Value
 from texts import SCORE_LIMIT, WHITE_SPACE, ascii_lower, ascii_upper
@@ -450,7 +450,7 @@ class Select(Statement):
             yield OUT_OF_RANGE
         index = state.index_on(self.table, state.tables[self.table].place(contains.column))
         try:
-            searched(contains.query, Prefs() if index is None else index.prefs, contains.unbuilt)
+            searched(contains.query, Context(Prefs() if index is None else index.prefs, state.thesauri), contains.unbuilt)
         except NotSearched as fault:
             yield Refusal(fault.number, fault.text, is_of_query=True)
 
@@ -462,7 +462,7 @@ class Select(Statement):
             return [(key, 0) for key in keys]
         index = state.index_on(self.table, table.place(self.contains.column))
         assert index is not None and isinstance(self.contains.above, int)
-        query = searched(self.contains.query, index.prefs, self.contains.unbuilt)
+        query = searched(self.contains.query, Context(index.prefs, state.thesauri), self.contains.unbuilt)
         scores = {key: score(query, document(index.prefs, text)) for key, text in state.synchronised_texts(index)}
         return [(key, scores[key]) for key in keys if scores.get(key, 0) > self.contains.above]
 

@@ -14,6 +14,7 @@ PREFERENCES = ["lx", "ly", "docs", "p" * 30, "p#1"]
 STOPLISTS = ["sl", "lx", "s" * 30]
 GROUPS = ["g", "h", "lx", "g" * 30]
 SECTIONS = ["p", "q", "t", "z_1", "docs", "s" * 30]
+THESAURI = ["default", "th", "lx", "t" * 30]
 TAGS = ["p", "q", "t", "k", "h1", "a-b", "_x", "-", "1", "x" * 30]
 STRANGE_NAMES = [
     "nope", "x" * 31, "order", "key", "select", "Score", "ctx_user_pending", "ctx_user_index_errors", "local", "1a", "_a", "é",
@@ -36,6 +37,11 @@ SENTENCE_ENDS = [". ", "! ", "? ", ".\n", ".\n\n", "!\n ", "?\r\n", ".\n\u3000",
 # letters that are no ASCII letters, though one of their cases is, or looks like one
 LOOKS_LIKE = str.maketrans("sSkKiIoO", "\u017f\u017f\u212a\u212a\u0131\u0130\u03bf\u039f")
 STOPWORDS = ["a|b", "back\\slash", "new\nline", "it's", "web-site", " ", "-", "\u0301", "y" * STOPWORD_SIZE]
+# terms of thesauri that are keyed in ways of their own, have no word, or are at the border of their size; and texts that are no terms
+TERMS = [
+    "a|b", "back\\slash", "it's", "web-site", "l'été", "+", "\u0301", "İ", "ß ſ", "y" * 255, " " + "é" * 127 + "y\n", "\u0149" * 127,
+]
+NO_TERMS = ["", " ", "\u3000\n", "y" * 256, "é" * 128, "y" * 254 + " é"]
 # forms of tags of a name: such as begin or end a section, and such as are none
 WHOLE_TAGS = ["<{}>", "<{}>", "</{}>", "<<{}>", "<{}>>"]
 BROKEN_TAGS = [

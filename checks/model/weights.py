@@ -8,6 +8,7 @@ from documents import Group, Prefs, document
 from preferences import changed_options
 from state import Index, State, Table
 from texts import KEY_LIMIT
+from thesauri import Thesaurus
 
 LEAST_WEIGHT = 64
 ROW_KEY = 8
@@ -93,10 +94,17 @@ def table_weight(name: str, table: Table) -> int:
     return weight
 
 
+def thesaurus_weight(name: str, thesaurus: Thesaurus) -> int:
+    """Returns the weight of the entries of a thesaurus and its pairs, whose keys have one byte for the relation."""
+    pairs = (1 + name_length(name) + 1 + name_length(first) + name_length(second) for _, first, second in thesaurus)
+    return entry_weight(1 + name_length(name), 0) + sum(entry_weight(key, 0) for key in pairs)
+
+
 def preferences_weight(state: State) -> int:
-    """Returns the weight of the entries of preferences, stoplists and section groups."""
+    """Returns the weight of the entries of preferences, stoplists, section groups and thesauri."""
     weight = sum(entry_weight(1 + name_length(name), attributes_length(it)) for name, it in state.preferences.items())
     weight += sum(entry_weight(1 + name_length(name), list_length(map(text_length, it))) for name, it in state.stoplists.items())
+    weight += sum(thesaurus_weight(name, it) for name, it in state.thesauri.items())
     return weight + sum(entry_weight(1 + name_length(name), group_length(it)) for name, it in state.groups.items())
 
 

@@ -148,9 +148,8 @@ SELECT id, SCORE(1) FROM docs WHERE CONTAINS(body,'NEAR((red))',1) > 0;
 SELECT id, SCORE(1) FROM docs WHERE CONTAINS(body,'red;red;red;red;red;red;red;red;red;red;red;red;red;red;red;red;red',1) > 0;
 SELECT id, SCORE(1) FROM docs WHERE CONTAINS(body,'red fox) WITHIN nope',1) > 0;
 SELECT id, SCORE(1) FROM docs WHERE CONTAINS(body,'é {',1) > 0;
--- wildcards, operators of thesauri and DEFINESCORE aren't searched yet
+-- wildcards and DEFINESCORE
 SELECT id, SCORE(1) FROM docs WHERE CONTAINS(body,'re% AND fox',1) > 0;
-SELECT id, SCORE(1) FROM docs WHERE CONTAINS(body,'SYN(red) OR fox',1) > 0;
 SELECT id, SCORE(1) FROM docs WHERE CONTAINS(body,'DEFINESCORE(red, OCCURRENCE) WITHIN nope',1) > 0;
 SELECT id, SCORE(1) FROM docs WHERE CONTAINS(body,'NEAR((red, f_x))',1) > 0;
 SELECT id, SCORE(1) FROM docs WHERE CONTAINS(body,'re% = {a-b}',1) > 0;
