@@ -50,6 +50,10 @@ SELECT id FROM products WHERE CONTAINS(body, 'NT(bicycle, 2, shop) AND SYN(gear,
 SELECT id FROM products WHERE CONTAINS(body, 'NEAR((NT(bicycle, 2, shop), SYN(gear, shop)), 3)') > 0;
 SELECT id, price FROM products WHERE CONTAINS(body, 'NT(bicycle, 2, shop)') > 0 AND price < 1000;
 
+-- Words that end in bike; and ten points for each time that a narrower term of bicycle stands there.
+SELECT id FROM products WHERE CONTAINS(body, '%bike') > 0;
+SELECT id, SCORE(1) FROM products WHERE CONTAINS(body, 'DEFINESCORE(NT(bicycle, 2, shop), OCCURRENCE * 10)', 1) > 0;
+
 -- A relation that comes later is seen at once. A thesaurus has to be there.
 EXEC CTX_THES.CREATE_RELATION('shop', 'scooter', 'SYN', 'bicycle');
 SELECT id FROM products WHERE CONTAINS(body, 'SYN(bicycle, shop)') > 0;
