@@ -9,3 +9,4 @@ pub mod LookSteps
 pub mod FewLooks
 pub mod MapSteps
 pub mod Giving
+pub mod Wants

@@ -78,6 +78,10 @@ pub record AreFeedsOf (words : KeyRows) (spans : NameRows) (q : Reduced) (feeds 
 abbrev pub AreRowsOfKeys : Content → List ℕ → ℕ → List (List ℕ) → List (List (List WordDocument)) → Type 0
 AreRowsOfKeys m i stream keys rows = (held : List ℕ → List (List WordDocument)) → EachIs (λ key. HoldsKey m i stream key (held key)) keys → rows ≡ map held keys
 
+-- of the tokens that some patterns take in a stream
+abbrev pub AreRowsInStream : Content → List ℕ → ℕ → List (List PatternBit) → List (List (List WordDocument)) → Type 0
+AreRowsInStream m i stream patterns rows = (held : KeyRows) → HoldsStream m i stream held → AreRowsOfPatterns held stream patterns rows
+
 -- keys of 1 to 255 bytes, in a stream that there is
 pub record CanBeRead (w : Wanted) : Type 0 where
   pub stream : w.stream ≤ stream_limit

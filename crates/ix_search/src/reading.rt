@@ -15,10 +15,10 @@ ghost use Rattle.ix_rows.specs.SpanRows.{section_term};
 ghost use Rattle.q_tree.specs.ReducedQueries.{reduced_of};
 ghost use Rattle.ix_cursor.specs.Reading.{TokensRise, SlotFeedsRise, SectionFeedsRise, FeedsRise};
 ghost use Rattle.ix_tokens.specs.Looking.{key_looks};
-ghost use Rattle.ix_tokens.specs.Tokens.{KeyRows, HoldsKey, HoldsStream};
+ghost use Rattle.ix_tokens.specs.Tokens.{KeyRows, HoldsKey};
 ghost use Rattle.ix_search.specs.Parts.{keys_of, patterns_of};
 ghost use Rattle.ix_search.specs.Looking.{keys_looks, patterns_looks, slot_looks, slots_looks, name_looks, names_looks, query_looks};
-ghost use Rattle.ix_search.specs.Reading.{NameRows, HoldsTokens, HoldsName, CanBeRead, IsSlotFeed, AreRowsOfKeys, AreRowsOfPatterns, AreFeedsOfSlots, AreFeedsOfSections, AreFeedsOfQuery, section_feed, section_names};
+ghost use Rattle.ix_search.specs.Reading.{NameRows, HoldsTokens, HoldsName, CanBeRead, IsSlotFeed, AreRowsOfKeys, AreRowsInStream, AreFeedsOfSlots, AreFeedsOfSections, AreFeedsOfQuery, section_feed, section_names};
 
 use crate::wanting::{Wanted, want_names, want_slots};
 use ct_base::{Listed, Memory, Name};
@@ -27,6 +27,7 @@ use ct_keep::{KeepFault, Keeper};
 use ix_cursor::{Feeds, SectionFeed, SlotFeed};
 use ix_posting::EncodedRows;
 use ix_rows::{put_section_term, put_word_term, rows_of};
+use ix_slots::SlotList;
 use ix_tokens::rows_of_pattern;
 use q_tree::{Flat, Pattern, Slot};
 use std::alloc::Global;
@@ -114,7 +115,7 @@ fn read_patterns<K: Keeper>(
 ) -> Result<Vec<EncodedRows<u32>>, KeepFault>
     requires { (K.view keeper.old).ready }
     ensures rise { IfOk result (λ tokens. TokensRise tokens.items) }
-    ensures rows { Finds K.view keeper.old result (λ m tokens. (held : KeyRows) → HoldsStream m index.now stream held → AreRowsOfPatterns held stream patterns.now tokens.items) }
+    ensures rows { Finds K.view keeper.old result (λ m tokens. AreRowsInStream m index.now stream patterns.now tokens.items) }
     ensures reads { OnlyReads K.view keeper.old keeper.new result }
     ensures at_most { Told K.view keeper.old (λ m. LooksAtMost K.view keeper.old keeper.new (patterns_looks m index.now stream patterns.now)) }
 {
@@ -175,17 +176,17 @@ fn read_slots<K: Keeper>(
     keeper: &mut K,
     index: &Name,
     wanted: Vec<Wanted>,
-) -> Result<Listed<SlotFeed>, KeepFault>
+) -> Result<SlotList<SlotFeed>, KeepFault>
     requires { (K.view keeper.old).ready }
     ensures rise { IfOk result (λ feeds. SlotFeedsRise feeds) }
     ensures rows { Finds K.view keeper.old result (λ m feeds. AreFeedsOfSlots m index.now wanted.items feeds) }
     ensures reads { OnlyReads K.view keeper.old keeper.new result }
     ensures at_most { Told K.view keeper.old (λ m. LooksAtMost K.view keeper.old keeper.new (slots_looks m index.now wanted.items)) }
 {
-    let mut feeds = Listed::empty(alloc);
+    let mut feeds = SlotList::empty(alloc);
     for want in wanted {
         let feed = read_slot(alloc, keeper, index, want)?;
-        feeds = feeds.with(feed)?;
+        feeds = feeds.with(alloc, feed)?;
     }
     Ok(feeds)
 }
@@ -258,11 +259,10 @@ pub(crate) fn read<K: Keeper>(
     ensures reads { OnlyReads K.view keeper.old keeper.new result }
     ensures at_most { Told K.view keeper.old (λ m. LooksAtMost K.view keeper.old keeper.new (query_looks m index.now (reduced_of flat.now))) }
 {
-    let mut wanted = Vec::new(alloc);
-    want_slots(alloc, flat, 0, &mut wanted)?;
+    let wanted = want_slots(alloc, flat, 0, SlotList::empty(alloc))?;
     let mut names = Vec::new(alloc);
     want_names(alloc, flat, &mut names)?;
-    let slots = read_slots(alloc, keeper, index, wanted)?;
+    let slots = read_slots(alloc, keeper, index, wanted.into_vec())?;
     let sections = read_names(alloc, keeper, index, names)?;
     Ok(Feeds { slots, sections })
 }

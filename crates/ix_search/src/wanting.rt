@@ -8,7 +8,8 @@ ghost use Rattle.q_tree.specs.declared.flats.Slot.TheVariants.{Takes};
 ghost use Rattle.ix_search.specs.Wanting.{is_wanted, with_slot, with_phrase, with_term, with_operands, with_slots, with_name, with_names};
 
 use ct_base::{Listed, Memory, Name};
-use q_tree::{Flat, Pattern, PatternBit, Phrase, Phrases, Place, Slot, same_slot};
+use ix_slots::{InStream, SlotList};
+use q_tree::{Flat, Pattern, PatternBit, Phrase, Phrases, Place, Slot};
 use std::alloc::Global;
 use tx_chars::Key;
 
@@ -19,13 +20,29 @@ pub(crate) struct Wanted {
     pub(crate) slot: Slot,
 }
 
+impl InStream for Wanted {
+    ghost at = { λ wanted. record { stream = wanted.stream; slot = wanted.slot } };
+
+    fn stream(&self) -> u8 {
+        self.stream
+    }
+
+    fn slot(&self) -> &Slot {
+        &self.slot
+    }
+}
+
 /// Whether a slot is among those wanted in a stream.
-fn is_wanted(wanted: &[Wanted], stream: u8, slot: &Slot) -> bool
-    ensures { result ≡ is_wanted wanted.now stream slot.now }
+fn is_wanted(
+    alloc: Global,
+    wanted: &SlotList<Wanted>,
+    stream: u8,
+    slot: &Slot,
+) -> Result<bool, Memory>
+    ensures { IfOk result (λ is. is ≡ is_wanted wanted.now stream slot.now) }
 {
-    wanted
-        .iter()
-        .any(|w| w.stream == stream && same_slot(&w.slot, slot))
+    let found = wanted.find(alloc, stream, slot)?;
+    Ok(found.is_some())
 }
 
 /// The same key once more.
@@ -82,90 +99,95 @@ fn copy_patterns(alloc: Global, patterns: &[Pattern]) -> Result<Vec<Pattern>, Me
 }
 
 /// Wants a slot in a stream, unless it is wanted there. It wants none that takes any word.
-fn want_slot(alloc: Global, stream: u8, slot: &Slot, wanted: &mut Vec<Wanted>) -> Result<(), Memory>
-    ensures { OnOk result (wanted.new.items ≡ with_slot stream slot.now wanted.old.items) }
+fn want_slot(
+    alloc: Global,
+    stream: u8,
+    slot: &Slot,
+    wanted: SlotList<Wanted>,
+) -> Result<SlotList<Wanted>, Memory>
+    ensures { IfOk result (λ all. all ≡ with_slot stream slot.now wanted) }
 {
     let Slot::Takes { keys, patterns } = slot else {
-        return Ok(());
+        return Ok(wanted);
     };
-    if is_wanted(wanted, stream, slot) {
-        return Ok(());
+    if is_wanted(alloc, &wanted, stream, slot)? {
+        return Ok(wanted);
     }
     let slot = Slot::Takes {
         keys: Listed::of(copy_keys(alloc, keys.as_slice())?),
         patterns: Listed::of(copy_patterns(alloc, patterns.as_slice())?),
     };
-    wanted.push(Wanted { stream, slot })?;
-    Ok(())
+    wanted.with(alloc, Wanted { stream, slot })
 }
 
 fn want_phrase(
     alloc: Global,
     stream: u8,
     phrase: &[Slot],
-    wanted: &mut Vec<Wanted>,
-) -> Result<(), Memory>
-    ensures { OnOk result (wanted.new.items ≡ with_phrase stream phrase.now wanted.old.items) }
+    mut wanted: SlotList<Wanted>,
+) -> Result<SlotList<Wanted>, Memory>
+    ensures { IfOk result (λ all. all ≡ with_phrase stream phrase.now wanted) }
 {
     for slot in phrase {
-        want_slot(alloc, stream, slot, wanted)?;
+        wanted = want_slot(alloc, stream, slot, wanted)?;
     }
-    Ok(())
+    Ok(wanted)
 }
 
 fn want_term(
     alloc: Global,
     stream: u8,
     phrases: &[Phrase],
-    wanted: &mut Vec<Wanted>,
-) -> Result<(), Memory>
-    ensures { OnOk result (wanted.new.items ≡ with_term stream phrases.now wanted.old.items) }
+    mut wanted: SlotList<Wanted>,
+) -> Result<SlotList<Wanted>, Memory>
+    ensures { IfOk result (λ all. all ≡ with_term stream phrases.now wanted) }
 {
     for phrase in phrases {
-        want_phrase(alloc, stream, phrase.as_slice(), wanted)?;
+        wanted = want_phrase(alloc, stream, phrase.as_slice(), wanted)?;
     }
-    Ok(())
+    Ok(wanted)
 }
 
 fn want_operands(
     alloc: Global,
     stream: u8,
     operands: &[Phrases],
-    wanted: &mut Vec<Wanted>,
-) -> Result<(), Memory>
-    ensures { OnOk result (wanted.new.items ≡ with_operands stream operands.now wanted.old.items) }
+    mut wanted: SlotList<Wanted>,
+) -> Result<SlotList<Wanted>, Memory>
+    ensures { IfOk result (λ all. all ≡ with_operands stream operands.now wanted) }
 {
     for phrases in operands {
-        want_term(alloc, stream, phrases.as_slice(), wanted)?;
+        wanted = want_term(alloc, stream, phrases.as_slice(), wanted)?;
     }
-    Ok(())
+    Ok(wanted)
 }
 
-/// Wants the slots of a query, each in its stream and once. Its cost is, for each slot, the number of those wanted.
+/// Wants the slots of a query, each in its stream and once. Its cost is, for each slot, its length and the logarithm of the number of those
+/// wanted.
 pub(crate) fn want_slots(
     alloc: Global,
     flat: &Flat,
     stream: u8,
-    wanted: &mut Vec<Wanted>,
-) -> Result<(), Memory>
-    ensures { OnOk result (wanted.new.items ≡ with_slots (reduced_of flat.now) stream wanted.old.items) }
+    wanted: SlotList<Wanted>,
+) -> Result<SlotList<Wanted>, Memory>
+    ensures { IfOk result (λ all. all ≡ with_slots (reduced_of flat.now) stream wanted) }
 {
     match flat {
         Flat::Term(phrases) => want_term(alloc, stream, phrases.as_slice(), wanted),
         Flat::And(a, b) => {
-            want_slots(alloc, a, stream, wanted)?;
+            let wanted = want_slots(alloc, a, stream, wanted)?;
             want_slots(alloc, b, stream, wanted)
         }
         Flat::Or(a, b) => {
-            want_slots(alloc, a, stream, wanted)?;
+            let wanted = want_slots(alloc, a, stream, wanted)?;
             want_slots(alloc, b, stream, wanted)
         }
         Flat::Not(a, b) => {
-            want_slots(alloc, a, stream, wanted)?;
+            let wanted = want_slots(alloc, a, stream, wanted)?;
             want_slots(alloc, b, stream, wanted)
         }
         Flat::Minus(a, b) => {
-            want_slots(alloc, a, stream, wanted)?;
+            let wanted = want_slots(alloc, a, stream, wanted)?;
             want_slots(alloc, b, stream, wanted)
         }
         Flat::Weight(_, a) => want_slots(alloc, a, stream, wanted),
