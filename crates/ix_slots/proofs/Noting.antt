@@ -17,7 +17,7 @@ use Rattle.q_tree.specs.declared.flats.Slot.{Slot}
 use Rattle.q_tree.specs.Slots.{same_slot}
 use Rattle.q_tree.specs.laws.SameSlots.{slots_decide}
 use Rattle.ix_slots.specs.SlotBytes.{slot_bytes}
-use Rattle.ix_slots.specs.NotedPlaces.{NotedMap, noted_under, NotesPlace}
+use Rattle.ix_slots.specs.NotedPlaces.{NotedMap, noted_under, PutsPlace}
 use Rattle.ix_slots.specs.SlotLists.{StreamSlot, is_slot_in, any_then, at_places, first_in, places_with, AreNoted}
 
 -- ---- a map whose keys are bytes
@@ -56,7 +56,7 @@ had_or_none (Some v) none empty = refl
 -- one place more, behind those that were read
 pub one_noted : (bs read : List ℕ) (place : ℕ) (old mid new : NotedMap) (before : Option (Vec ℕ Global)) (none had places : Vec ℕ Global)
     → read ≡ bs → before ≡ get_by (order_at read) old → UpdatesBy key_order (order_at read) old mid None → none.items ≡ [] → had ≡ unwrap_or before none → places.items ≡ had.items ++ place ∷ [] → UpdatesBy key_order (order_at bs) mid new (Some places)
-    → NotesPlace old new bs place
+    → PutsPlace old new bs place
 one_noted bs read place old mid new before none had places same found taken empty is more put cs =
     ap items_in (changed bs mid new (Some places) put cs ∙ ap (cond (bytes_eq bs cs) (Some places)) (changed read old mid None taken cs) ∙ ap (λ (l : List ℕ). cond (bytes_eq bs cs) (Some places) (cond (bytes_eq l cs) None (get_by (order_at cs) old))) same)
     ∙ go (bytes_eq bs cs) (λ here. whole ∙ ap (λ (l : List ℕ). noted_under l old ++ place ∷ []) ((bytes_eq-Decides bs cs).0 here))
@@ -91,7 +91,7 @@ module _ {X : Type 0} (at : X → StreamSlot) where
       go false true rest = rest
       go false false rest = rest
 
-  pub are_noted_more : (xs : List X) (x : X) (bytes : List ℕ) (old new : NotedMap) → bytes ≡ slot_bytes (at x).stream (at x).slot → NotesPlace old new bytes (length xs) → AreNoted at old xs → AreNoted at new (xs ++ x ∷ [])
+  pub are_noted_more : (xs : List X) (x : X) (bytes : List ℕ) (old new : NotedMap) → bytes ≡ slot_bytes (at x).stream (at x).slot → PutsPlace old new bytes (length xs) → AreNoted at old xs → AreNoted at new (xs ++ x ∷ [])
   are_noted_more xs x bytes old new is adds noted cs =
       let zero_on : 0 + length xs ≡ length xs = omega arith in
       adds cs ∙ ap (λ (b : List ℕ). cond (bytes_eq b cs) (noted_under cs old ++ length xs ∷ []) (noted_under cs old)) is
@@ -140,10 +140,10 @@ module _ {X : Type 0} (at : X → StreamSlot) where
   -- ---- over the calls of a list
 
   pub one_more : (xs ys : List X) (x : X) (stream : ℕ) (slot : Slot) (bytes : List ℕ) (n : ℕ) (old new : NotedMap)
-      → stream ≡ (at x).stream → slot ≡ (at x).slot → bytes ≡ slot_bytes stream slot → n ≡ length xs → NotesPlace old new bytes n → ys ≡ xs ++ x ∷ [] → AreNoted at old xs → AreNoted at new ys
+      → stream ≡ (at x).stream → slot ≡ (at x).slot → bytes ≡ slot_bytes stream slot → n ≡ length xs → PutsPlace old new bytes n → ys ≡ xs ++ x ∷ [] → AreNoted at old xs → AreNoted at new ys
   one_more xs ys x stream slot bytes n old new its_stream its_slot is last adds grown noted =
       subst (AreNoted at new) (sym grown)
-      (are_noted_more xs x bytes old new (is ∙ ap (λ (s : ℕ). slot_bytes s slot) its_stream ∙ ap (slot_bytes (at x).stream) its_slot) (subst (λ (k : ℕ). NotesPlace old new bytes k) last adds) noted)
+      (are_noted_more xs x bytes old new (is ∙ ap (λ (s : ℕ). slot_bytes s slot) its_stream ∙ ap (slot_bytes (at x).stream) its_slot) (subst (λ (k : ℕ). PutsPlace old new bytes k) last adds) noted)
 
   pub found_first : (stream : ℕ) (slot : Slot) (m : NotedMap) (xs items whole : List X) (bytes read places : List ℕ) (found : Option X)
       → AreNoted at m xs → bytes ≡ slot_bytes stream slot → read ≡ bytes → places ≡ noted_under read m → items ≡ xs → xs ≡ whole → found ≡ first_in at stream slot (at_places items places) → found ≡ first_in at stream slot whole

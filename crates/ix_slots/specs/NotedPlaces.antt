@@ -15,9 +15,9 @@ NotedMap = BTreeMap (Vec ℕ Global) (Vec ℕ Global)
 abbrev pub noted_under : List ℕ → NotedMap → List ℕ
 noted_under bytes m = option_map_or (λ v. v.items) (get_by (λ k. slice_cmp nat_cmp bytes k.items) m) []
 
--- NOTES A PLACE under some bytes, behind those that are there
-abbrev pub NotesPlace : NotedMap → NotedMap → List ℕ → ℕ → Type 0
-NotesPlace old new bytes place = (q : List ℕ) → noted_under q new ≡ (if bytes_eq bytes q then noted_under q old ++ place ∷ [] else noted_under q old)
+-- A PLACE MORE under some bytes, behind those that are there
+abbrev pub PutsPlace : NotedMap → NotedMap → List ℕ → ℕ → Type 0
+PutsPlace old new bytes place = (q : List ℕ) → noted_under q new ≡ (if bytes_eq bytes q then noted_under q old ++ place ∷ [] else noted_under q old)
 
 -- computed example: in a map without entries there is none
 none_noted : (bytes : List ℕ) (m : NotedMap) → m.entries ≡ [] → noted_under bytes m ≡ []

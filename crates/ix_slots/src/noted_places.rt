@@ -1,7 +1,7 @@
 //! Places of a list that are noted under bytes.
 
 ghost use Rattle.std.specs.Prelude.{◌≡◌, [], ℕ, List, OnOk};
-ghost use Rattle.ix_slots.specs.NotedPlaces.{noted_under, NotesPlace};
+ghost use Rattle.ix_slots.specs.NotedPlaces.{noted_under, PutsPlace};
 
 use ct_base::Memory;
 use std::alloc::Global;
@@ -35,7 +35,7 @@ impl NotedPlaces {
 
     /// Notes a place. Its cost is the logarithm of the number of places. At an error the places may only be dropped.
     pub(crate) fn note(&mut self, alloc: Global, bytes: Vec<u8>, place: usize) -> Result<(), Memory>
-        ensures { OnOk result (NotesPlace self.old.places self.new.places bytes.items place) }
+        ensures { OnOk result (PutsPlace self.old.places self.new.places bytes.items place) }
     {
         let before = self.places.remove(bytes.as_slice());
         let mut places = before.unwrap_or(Vec::new(alloc));

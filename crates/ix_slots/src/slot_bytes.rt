@@ -23,10 +23,8 @@ fn put_bit(out: &mut Vec<u8>, bit: &PatternBit) -> Result<(), Memory>
 fn put_pattern(out: &mut Vec<u8>, pattern: &[PatternBit]) -> Result<(), Memory>
     ensures { OnOk result (out.new.items ≡ out.old.items ++ bits_bytes pattern.now) }
 {
-    let mut rest = pattern;
-    while let [bit, later @ ..] = rest {
+    for bit in pattern {
         put_bit(out, bit)?;
-        rest = later;
     }
     Ok(())
 }

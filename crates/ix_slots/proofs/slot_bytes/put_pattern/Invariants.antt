@@ -1,9 +1,6 @@
-use Rattle.std.proofs.Common.{◌≡◌, ◌++◌, length}
+use Rattle.std.proofs.Common.{◌≡◌, ◌++◌, drop}
 use Rattle.ix_slots.specs.SlotBytes.{bits_bytes}
 use Rattle.ix_slots.proofs.slot_bytes.put_pattern.Given as goal
 
-abbrev pub invariant-loop-rest : goal.invariant-loop-rest
-invariant-loop-rest l = l.out.items ++ bits_bytes l.rest ≡ l.fn.out.items ++ bits_bytes l.pattern
-
-abbrev pub decreases-loop-rest : goal.decreases-loop-rest
-decreases-loop-rest l = length l.rest
+abbrev pub invariant-loop-bit : goal.invariant-loop-bit
+invariant-loop-bit l = l.out.items ++ bits_bytes (drop l.bit-index l.pattern) ≡ l.fn.out.items ++ bits_bytes l.pattern
