@@ -9,3 +9,4 @@ pub mod Silent
 pub mod LoneDocument
 pub mod Passed
 pub mod Leaping
+pub mod FeedsFound

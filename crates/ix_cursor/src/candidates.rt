@@ -44,8 +44,8 @@ pub(crate) fn first_candidate(
 
 impl Candidates {
     /// The documents in which the query may score, over what was read for it. It decodes no row yet, and shares the rows of the feeds.
-    /// Its cost is the number of slots of the query times that of the slots that were read, and the number of their tokens; it goes as deep
-    /// as the query.
+    /// Its cost is, for each slot of the query, its length, the logarithm of the number of slots that were read, and the number of its
+    /// tokens; it goes as deep as the query.
     pub fn build(alloc: Global, flat: &Flat, feeds: &Feeds) -> Result<Candidates, Memory>
         requires sound { is_sound (reduced_of flat.now) ≡ true }
         requires rows { FeedsRise feeds.now }

@@ -8,7 +8,8 @@ use crate::sources::Source;
 use ct_base::{Listed, Memory, Name, Pair};
 use ix_lists::Postings;
 use ix_posting::EncodedRows;
-use q_tree::{Slot, same_slot};
+use ix_slots::{InStream, SlotList};
+use q_tree::Slot;
 use std::alloc::Global;
 
 /// The rows of each token that a slot takes in a stream. The documents of each token rise from one row to the next.
@@ -27,42 +28,53 @@ pub struct SectionFeed {
     pub rows: EncodedRows<Pair>,
 }
 
-/// What was read for a query. Of a slot or a section that isn't among them there are no postings.
+impl InStream for SlotFeed {
+    ghost at = { λ feed. record { stream = feed.stream; slot = feed.slot } };
+
+    fn stream(&self) -> u8 {
+        self.stream
+    }
+
+    fn slot(&self) -> &Slot {
+        &self.slot
+    }
+}
+
+/// What was read for a query. Of a slot or a section that isn't among them there are no postings. A slot is found at the cost of the
+/// logarithm of their number; a section at that of the number of sections, of which a query has at most 64.
 #[derive(Drop)]
 pub struct Feeds {
-    pub slots: Listed<SlotFeed>,
+    pub slots: SlotList<SlotFeed>,
     pub sections: Listed<SectionFeed>,
 }
 
-/// The rows of each token that a slot takes in a stream. Its cost is the number of slots that were read.
-fn tokens_read<'a>(feeds: &'a [SlotFeed], stream: u8, slot: &Slot) -> &'a [EncodedRows<u32>]
-    requires { SlotFeedsRise feeds.now }
-    ensures rise { TokensRise result.now }
-    ensures tokens { result.now ≡ tokens_read feeds.now stream slot.now }
+/// The documents of each of some tokens. It shares their rows.
+fn shared(alloc: Global, tokens: &[EncodedRows<u32>]) -> Result<Vec<Postings<u32>>, Memory>
+    requires { TokensRise tokens.now }
+    ensures { IfOk result (λ v. v.items ≡ documents_of tokens.now) }
 {
-    for feed in feeds {
-        if feed.stream == stream && same_slot(&feed.slot, slot) {
-            return feed.tokens.as_slice();
-        }
+    let mut postings = Vec::new(alloc);
+    for rows in tokens {
+        postings.push(Postings::of(rows.share()?))?;
     }
-    &[]
+    Ok(postings)
 }
 
-/// The documents of each token that a slot takes in a stream.
+/// The documents of each token that a slot takes in a stream. Its cost is the logarithm of the number of slots that were read, the length
+/// of the slot, and the number of its tokens.
 fn postings_of(
     alloc: Global,
-    feeds: &[SlotFeed],
+    feeds: &SlotList<SlotFeed>,
     stream: u8,
     slot: &Slot,
 ) -> Result<Vec<Postings<u32>>, Memory>
     requires { SlotFeedsRise feeds.now }
     ensures { IfOk result (λ v. v.items ≡ documents_of (tokens_read feeds.now stream slot.now)) }
 {
-    let mut postings = Vec::new(alloc);
-    for rows in tokens_read(feeds, stream, slot) {
-        postings.push(Postings::of(rows.share()?))?;
+    match feeds.find(alloc, stream, slot)? {
+        Some(feed) => shared(alloc, feed.tokens.as_slice()),
+        None => Ok(Vec::new(alloc)),
     }
-    Ok(postings)
 }
 
 /// The documents of a section.
@@ -86,7 +98,7 @@ impl Source for Feeds {
     ghost well = { FeedsRise };
 
     fn tokens(&self, alloc: Global, stream: u8, slot: &Slot) -> Result<Vec<Postings<u32>>, Memory> {
-        postings_of(alloc, self.slots.as_slice(), stream, slot)
+        postings_of(alloc, &self.slots, stream, slot)
     }
 
     fn section(&self, alloc: Global, name: &str) -> Result<Postings<Pair>, Memory> {
