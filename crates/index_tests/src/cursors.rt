@@ -9,6 +9,7 @@ ghost use Rattle.ix_cursor.specs.Reading.{TokensRise, SlotFeedsRise, SectionFeed
 use ct_base::{DocId, Listed, Memory, Name, Pair};
 use ix_cursor::{Candidates, Cursor, Feeds, SectionFeed, SlotFeed};
 use ix_posting::{EncodedRow, EncodedRows, Row, RowDocument};
+use ix_slots::SlotList;
 use q_tree::{Flat, Phrases, Place, Slot, SumStep};
 use std::alloc::Global;
 use std::test::Fail;
@@ -128,15 +129,17 @@ fn double_feed(alloc: Global) -> Result<SlotFeed, Fail>
     Ok(slot_feed(alloc, 0, "ac", tokens)?)
 }
 
-fn slot_feeds(alloc: Global) -> Result<Vec<SlotFeed>, Fail>
-    ensures { IfOk result (λ fs. SlotFeedsRise fs.items) }
+fn slot_feeds(alloc: Global) -> Result<SlotList<SlotFeed>, Fail>
+    ensures { IfOk result (λ fs. SlotFeedsRise fs) }
 {
     let a = single_feed(alloc, 0, "a", A)?;
     let b = single_feed(alloc, 0, "b", B)?;
     let c = single_feed(alloc, 0, "c", C)?;
     let both = double_feed(alloc)?;
     let field = single_feed(alloc, 1, "a", FIELD)?;
-    Ok(vec![in alloc; a, b, c, both, field]?)
+    let feeds = SlotList::empty(alloc).with(alloc, a)?.with(alloc, b)?;
+    let feeds = feeds.with(alloc, c)?.with(alloc, both)?;
+    Ok(feeds.with(alloc, field)?)
 }
 
 /// What is read for a section.
@@ -157,7 +160,7 @@ fn feeds(alloc: Global) -> Result<Feeds, Fail>
     let sentences = section_feed(alloc, "sentence", SENTENCES)?;
     let zone = section_feed(alloc, "t", ZONE)?;
     Ok(Feeds {
-        slots: Listed::of(slots),
+        slots,
         sections: Listed::of(vec![in alloc; sentences, zone]?),
     })
 }
