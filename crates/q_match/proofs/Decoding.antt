@@ -1,9 +1,9 @@
 -- The numbers that the bytes of a character come to fit into 32 bits.
 use Rattle.std.proofs.Common.{sym, length, get_or, take, drop, ◌≡◌, ℕ, ◌+◌, ◌-◌, ◌*◌, ◌≤◌, ◌<◌, Bool, true, false, cond, List, [], ◌∷◌, refl, ap, arith, suc, zero, nat_lt}
 use Rattle.std.proofs.lemmas.Bool.Decides.{nat_tests}
-use Rattle.std.proofs.lemmas.List.{take_all}
 use Rattle.std.proofs.lemmas.Str.{chars-nil}
 use Rattle.std.specs.Str.{chars, chars_after, continuation_len, lead_bits}
+use Rattle.ct_base.specs.laws.Lists.{first_of}
 
 -- how great a number is at most, of which so many bytes are still to come
 abbrev pub character_limit : ℕ → ℕ
@@ -54,11 +54,14 @@ limit_fits (suc zero) = omega arith
 limit_fits (suc (suc zero)) = omega arith
 limit_fits (suc (suc (suc n))) = omega arith
 
--- ---- the first of a list, and what follows it
+-- ---- what holds of bytes by their first, and by none
 
-pub first_of : {X : Type 0} (xs : List X) (e : X) → 1 ≤ length xs → xs ≡ get_or xs 0 e ∷ take (length xs - 1) (drop 1 xs)
-first_of [] e some = absurd (omega (arith, some))
-first_of (x ∷ xs) e some = ap (λ l. x ∷ l) (sym (take_all (length (x ∷ xs) - 1) xs (omega arith)))
+pub of_first : {Y : Type 0} (f : List ℕ → Y) (bs : List ℕ) → 1 ≤ length bs → f (get_or bs 0 0 ∷ take (length bs - 1) (drop 1 bs)) ≡ f bs
+of_first f bs some = sym (ap f (first_of bs (get_or bs 0 0) some (same bs)))
+  where
+    same : (xs : List ℕ) → get_or xs 0 0 ≡ get_or xs 0 (get_or xs 0 0)
+    same [] = refl
+    same (x ∷ xs) = refl
 
 pub chars_none : (bs : List ℕ) → length bs < 1 → [] ≡ chars bs
 chars_none [] few = sym chars-nil

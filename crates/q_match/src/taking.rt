@@ -3,7 +3,7 @@
 //! A pattern is taken piece by piece. After each piece a mark tells for each place of the key whether the pieces so far may end there. So
 //! the key is gone through once for each piece, whatever the wildcards.
 
-ghost use Rattle.std.specs.Prelude.{◌≡◌, ◌∷◌, ◌+◌, ◌&&◌, ◌||◌, eqb, Bool, ℕ, List, true, false, length, IfOk};
+ghost use Rattle.std.specs.Prelude.{◌≡◌, ◌∷◌, ◌+◌, ◌&&◌, ◌||◌, eqb, Bool, ℕ, List, true, false, length, IfOk, OnOk};
 ghost use Rattle.std.specs.Str.{chars};
 ghost use Rattle.q_tree.specs.Slots.{begins, is_end, has_key, has_pattern, matches, takes};
 ghost use Rattle.q_match.specs.Places.{at_some, moved, piece, spread, unmarked};
@@ -35,23 +35,28 @@ fn passes_char(mark: bool, wanted: u32, c: u32) -> bool
     mark && wanted == c
 }
 
-/// The marks after a character.
-fn after_char(alloc: Global, marks: &[bool], key: &[u32], wanted: u32) -> Result<Vec<bool>, Memory>
-    ensures { IfOk result (λ v. v.items ≡ false ∷ moved (λ c. eqb wanted c) marks.now key.now) }
+/// Puts the marks after a character in place of those that `out` has.
+fn put_after_char(
+    out: &mut Vec<bool>,
+    marks: &[bool],
+    key: &[u32],
+    wanted: u32,
+) -> Result<(), Memory>
+    ensures { OnOk result (out.new.items ≡ false ∷ moved (λ c. eqb wanted c) marks.now key.now) }
 {
-    let mut out = Vec::new(alloc);
+    out.clear();
     out.push(false)?;
     let mut rest = marks;
     let mut left = key;
     while let [c, more @ ..] = left {
         let [mark, later @ ..] = rest else {
-            return Ok(out);
+            return Ok(());
         };
         out.push(passes_char(*mark, wanted, *c))?;
         rest = later;
         left = more;
     }
-    Ok(out)
+    Ok(())
 }
 
 /// Whether a place is marked, whatever character is behind it.
@@ -100,16 +105,20 @@ fn after_many(alloc: Global, marks: &[bool]) -> Result<Vec<bool>, Memory>
     Ok(out)
 }
 
-/// The marks after the characters of a text.
+/// The marks after the characters of a text. Those after one character are made in the memory of those before the last one.
 fn after_text(alloc: Global, marks: &[bool], key: &[u32], text: &str) -> Result<Vec<bool>, Memory>
     requires { length marks.now ≡ length key.now + 1 }
     ensures places { IfOk result (λ v. (has : List ℕ → Bool) → at_some has v.items key.now ≡ at_some (begins has (chars text.now)) marks.now key.now) }
     ensures length { IfOk result (λ v. length v.items ≡ length key.now + 1) }
 {
     let mut at = Vec::from_slice(alloc, marks)?;
+    let mut spare = Vec::new(alloc);
     let mut rest = text;
     while let Some((c, after)) = split_first(rest) {
-        at = after_char(alloc, &at, key, c as u32)?;
+        put_after_char(&mut spare, &at, key, c as u32)?;
+        let last = at;
+        at = spare;
+        spare = last;
         rest = after;
     }
     Ok(at)

@@ -1,6 +1,6 @@
 use Rattle.std.proofs.Common.{◌≤◌, ◌<◌, ◌+◌, ◌*◌, ◌-◌, ◌++◌, ap, sym, subst, ◌∙◌, ℕ, List, length, get_or, take, drop, arith}
 use Rattle.std.specs.Str.{chars, chars_after}
-use Rattle.q_match.proofs.Decoding.{character_limit, chars_begin, chars_none, first_of, lead_fits, continuation_limit, next_fits, next_after}
+use Rattle.q_match.proofs.Decoding.{character_limit, chars_begin, chars_none, of_first, lead_fits, continuation_limit, next_fits, next_after}
 use Rattle.q_match.proofs.characters.characters.Goals as goal
 
 pub returns-in_default : goal.returns-in_default
@@ -16,7 +16,7 @@ loop-rest-init c =
       so_far =
           (λ i. c.new-out.ensures.items i ++ chars_after (c.continuation_len-left.ensures i) (c.lead_bits-value.ensures i) later)
           ∙ chars_begin b later
-          ∙ ap chars (sym (first_of bytes 0 c.in-len1-up.len_at_least));
+          ∙ of_first chars bytes c.in-len1-up.len_at_least;
       fits = rw (c.continuation_len-left.ensures, c.lead_bits-value.ensures) (lead_fits b low);
       three = rw c.continuation_len-left.ensures (continuation_limit b);
     }
@@ -36,7 +36,7 @@ loop-rest-preserved c =
       so_far =
           ap (λ (k : ℕ). out ++ chars_after (left - 1) (value * 64 + k) later) sub
           ∙ ap (λ (l : List ℕ). out ++ l) (sym (next_after left value b later some))
-          ∙ ap (λ (bs : List ℕ). out ++ chars_after left value bs) (sym (first_of rest 0 c.in-len1-up-rest.len_at_least))
+          ∙ of_first (λ (bs : List ℕ). out ++ chars_after left value bs) rest c.in-len1-up-rest.len_at_least
           ∙ c.loop-rest.invariant.so_far;
       fits = subst (λ (k : ℕ). value * 64 + k ≤ character_limit (left - 1)) (sym sub) (next_fits left value b low c.loop-rest.invariant.three some c.loop-rest.invariant.fits);
       three = omega (arith, c.loop-rest.invariant.three);

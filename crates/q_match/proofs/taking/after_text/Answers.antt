@@ -11,7 +11,7 @@ loop-c-preserved c =
     let old = c.loop-c.at.items in
     let t = c.in-Some.c in
     let after = c.in-Some.after.now in
-    let next : c.in_ok-at-2.at.items ≡ false ∷ moved (λ d. eqb t d) old key = c.in_ok-at-2.ensures ∙ ap (λ (bs : List Bool). false ∷ moved (λ d. eqb t d) bs key) c.deref.ensures.value in
+    let next : c.put_after_char.new.out.items ≡ false ∷ moved (λ d. eqb t d) old key = c.in_ok-put_after_char.ensures ∙ ap (λ (bs : List Bool). false ∷ moved (λ d. eqb t d) bs key) c.deref.ensures.value in
     record {
       is_text = search rules;
       so_far = λ has.
