@@ -1,5 +1,5 @@
 -- The values of a sum, step by step.
-use Rattle.std.proofs.Common.{◌≡◌, ℕ, ℤ, ◌+◌, ◌*◌, ◌≤◌, max, Bool, true, false, cond, ◌&&◌, nat_le, eqb-true, List, [], ◌∷◌, ◌++◌, length, Option, Some, None, zero, suc, refl, sym, ap, subst, ◌∙◌, arith}
+use Rattle.std.proofs.Common.{◌≡◌, ℕ, ℤ, ◌+◌, ◌*◌, ◌≤◌, max, Bool, true, false, cond, ◌&&◌, nat_le, eqb-true, List, [], ◌∷◌, ◌++◌, Option, Some, None, zero, suc, refl, sym, ap, subst, ◌∙◌, arith}
 use Rattle.std.specs.Bool.{if◌then◌else◌}
 use Rattle.std.specs.List.{list_all}
 use Rattle.std.specs.Int.RustNames.{unsigned_abs}
@@ -33,27 +33,25 @@ atom_step k Plus st h = cc
 atom_step k Minus st h = cc
 atom_step k Times st h = cc
 
-pub operator_step : (k : ℕ) (s : SumStep) (a b : ℤ) (st : List ℤ) → is_operator s ≡ true → sum_step k s (b ∷ a ∷ st) ≡ operator_value s a b ∷ st
-operator_step k (Number n) a b st h = cc
-operator_step k Discrete a b st h = cc
-operator_step k Occurrence a b st h = cc
-operator_step k Plus a b st h = refl
-operator_step k Minus a b st h = refl
-operator_step k Times a b st h = refl
+-- what an operator leaves of a stack: one value in place of the last two, or nothing where there are no two
+abbrev pub operated : SumStep → List ℤ → List ℤ
+operated s [] = []
+operated s (b ∷ []) = []
+operated s (b ∷ a ∷ st) = operator_value s a b ∷ st
 
-pub too_few : (k : ℕ) (s : SumStep) (st : List ℤ) → is_operator s ≡ true → length st ≤ 1 → sum_step k s st ≡ []
-too_few k (Number n) st h few = cc
-too_few k Discrete st h few = cc
-too_few k Occurrence st h few = cc
-too_few k Plus [] h few = refl
-too_few k Plus (b ∷ []) h few = refl
-too_few k Plus (b ∷ a ∷ st) h few = absurd (omega (arith, few))
-too_few k Minus [] h few = refl
-too_few k Minus (b ∷ []) h few = refl
-too_few k Minus (b ∷ a ∷ st) h few = absurd (omega (arith, few))
-too_few k Times [] h few = refl
-too_few k Times (b ∷ []) h few = refl
-too_few k Times (b ∷ a ∷ st) h few = absurd (omega (arith, few))
+pub operator_step : (k : ℕ) (s : SumStep) (st : List ℤ) → is_operator s ≡ true → sum_step k s st ≡ operated s st
+operator_step k (Number n) st h = cc
+operator_step k Discrete st h = cc
+operator_step k Occurrence st h = cc
+operator_step k Plus [] h = refl
+operator_step k Plus (b ∷ []) h = refl
+operator_step k Plus (b ∷ a ∷ st) h = refl
+operator_step k Minus [] h = refl
+operator_step k Minus (b ∷ []) h = refl
+operator_step k Minus (b ∷ a ∷ st) h = refl
+operator_step k Times [] h = refl
+operator_step k Times (b ∷ []) h = refl
+operator_step k Times (b ∷ a ∷ st) h = refl
 
 -- ---- how great the values become
 
@@ -90,11 +88,11 @@ moved : (x y z : ℕ) → (x * y) * z ≡ y * (x * z)
 moved x y z = ap (λ (n : ℕ). n * z) (mul_comm x y) ∙ mul_assoc y x z
 
 operator_magnitude : (k : ℕ) (s : SumStep) (st : List ℤ) → is_operator s ≡ true → magnitude (sum_step k s st) ≤ magnitude st
-operator_magnitude k s [] h = subst (λ (l : List ℤ). magnitude l ≤ 1) (sym (too_few k s [] h (omega arith))) (omega arith)
-operator_magnitude k s (b ∷ []) h = subst (λ (l : List ℤ). magnitude l ≤ magnitude (b ∷ [])) (sym (too_few k s (b ∷ []) h (omega arith))) (magnitude_some (b ∷ []))
+operator_magnitude k s [] h = subst (λ (l : List ℤ). magnitude l ≤ 1) (sym (operator_step k s [] h)) (omega arith)
+operator_magnitude k s (b ∷ []) h = subst (λ (l : List ℤ). magnitude l ≤ magnitude (b ∷ [])) (sym (operator_step k s (b ∷ []) h)) (magnitude_some (b ∷ []))
 operator_magnitude k s (b ∷ a ∷ st) h =
     let less : weight (operator_value s a b) * magnitude st ≤ (weight a * weight b) * magnitude st = mul-le (weight (operator_value s a b)) (magnitude st) (weight a * weight b) (magnitude st) (operator_weighs s a b) (omega arith) in
-    subst (λ (l : List ℤ). magnitude l ≤ magnitude (b ∷ a ∷ st)) (sym (operator_step k s a b st h)) (subst (λ (n : ℕ). weight (operator_value s a b) * magnitude st ≤ n) (moved (weight a) (weight b) (magnitude st)) less)
+    subst (λ (l : List ℤ). magnitude l ≤ magnitude (b ∷ a ∷ st)) (sym (operator_step k s (b ∷ a ∷ st) h)) (subst (λ (n : ℕ). weight (operator_value s a b) * magnitude st ≤ n) (moved (weight a) (weight b) (magnitude st)) less)
 
 pub step_fits : (k : ℕ) (s : SumStep) (ss : List SumStep) (st : List ℤ) → is_step s ≡ true → magnitude st * growth (s ∷ ss) ≤ magnitude_limit → magnitude (sum_step k s st) * growth ss ≤ magnitude_limit
 step_fits k s ss st h small = go (is_operator s) refl small
@@ -153,10 +151,6 @@ balance [] n m h = some_is n m h
     some_is n m h = ap (λ (k : ℕ). 0 + k) (same_Some n m h)
 balance (s ∷ ss) n m h = balance_more ss m (λ k. balance ss k m) (is_operator s) n h
 
-one_left : (o : Option ℕ) → is_one o ≡ true → o ≡ Some 1
-one_left None h = cc
-one_left (Some n) h = ap Some (eqb-true n 1 h)
-
 nine : thousands 9 ≡ magnitude_limit
 unfolding thousands
 nine = refl
@@ -166,11 +160,15 @@ begins_limited ss h =
     let p = and_parts (is_one (values ss 0) && nat_le (operators ss) 8) (list_all is_step ss) h in
     let q = and_parts (is_one (values ss 0)) (nat_le (operators ss) 8) p.0 in
     let few = leb-true (operators ss) 8 q.1 in
-    let same = balance ss 0 1 (one_left (values ss 0) q.0) in
+    let same = balance ss 0 1 (one (values ss 0) q.0) in
     let within = growth_within ss 9 (omega (arith, few, same)) in
     let limit = nine in
     (under (growth ss) (thousands 9) magnitude_limit within limit, p.1)
   where
+    one : (o : Option ℕ) → is_one o ≡ true → o ≡ Some 1
+    one None h = cc
+    one (Some n) h = ap Some (eqb-true n 1 h)
+
     under : (x y m : ℕ) → x ≤ y → y ≡ m → 1 * x ≤ m
     under x y m p q = omega (arith, p, q)
 
@@ -202,7 +200,7 @@ pub operate_done : (k : ℕ) (step : SumStep) (a b v : ℤ) (old mid xs new : Li
 operate_done k step a b v old mid xs new op first second is grown =
     pushed xs new v grown
     ∙ ap (λ (x : ℤ). x ∷ last_first xs) is
-    ∙ sym (operator_step k step a b (last_first xs) op)
+    ∙ sym (operator_step k step (b ∷ a ∷ last_first xs) op)
     ∙ sym (ap (sum_step k step) (two_last_first old mid xs a b first second))
 
 pub atom_done : (k : ℕ) (step : SumStep) (v : ℤ) (old new : List ℤ) → is_operator step ≡ false → v ≡ atom_value k step → new ≡ old ++ v ∷ [] → last_first new ≡ sum_step k step (last_first old)

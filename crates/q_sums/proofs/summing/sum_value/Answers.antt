@@ -1,7 +1,7 @@
-use Rattle.std.proofs.Common.{◌≡◌, ◌≤◌, ◌*◌, ◌-◌, ℤ, ap, ◌∙◌, sym, subst, List, ◌∷◌, true, take, drop, length, get_or, [], arith}
-use Rattle.std.proofs.lemmas.List.{take_all}
+use Rattle.std.proofs.Common.{◌≡◌, ◌≤◌, ◌*◌, ◌-◌, ℤ, ap, ◌∙◌, sym, subst, List, ◌∷◌, true, take, drop, length, get_or, [], refl}
 use Rattle.std.specs.List.{list_all}
 use Rattle.std.proofs.lemmas.Bool.{and_parts}
+use Rattle.ct_base.specs.laws.Lists.{first_of}
 use Rattle.q_tree.specs.declared.flats.SumStep.{SumStep}
 use Rattle.q_tree.specs.declared.flats.SumStep.TheVariants.{Number}
 use Rattle.q_tree.specs.Soundness.{is_step}
@@ -10,9 +10,13 @@ use Rattle.q_sums.specs.Magnitudes.{last_first, magnitude, growth, magnitude_lim
 use Rattle.q_sums.proofs.Stacks.{begins_limited, magnitude_within, step_fits}
 use Rattle.q_sums.proofs.summing.sum_value.Goals as goal
 
-first_of : {X : Type 0} (xs : List X) (e : X) → 1 ≤ length xs → xs ≡ get_or xs 0 e ∷ take (length xs - 1) (drop 1 xs)
-first_of [] e some = absurd (omega (arith, some))
-first_of (x ∷ xs) e some = ap (λ l. x ∷ l) (sym (take_all (length (x ∷ xs) - 1) xs (omega arith)))
+-- steps by their first
+first_step : (steps : List SumStep) → 1 ≤ length steps → steps ≡ get_or steps 0 (Number 0) ∷ take (length steps - 1) (drop 1 steps)
+first_step steps some = first_of steps (get_or steps 0 (Number 0)) some (same steps)
+  where
+    same : (ss : List SumStep) → get_or ss 0 (Number 0) ≡ get_or ss 0 (get_or ss 0 (Number 0))
+    same [] = refl
+    same (s ∷ ss) = refl
 
 pub loop-rest-init : goal.loop-rest-init
 loop-rest-init c =
@@ -32,7 +36,7 @@ loop-rest-preserved c =
     let rest = c.loop-rest.rest.now in
     let later = take (length rest - 1) (drop 1 rest) in
     let step = get_or rest 0 (Number 0) in
-    let whole : rest ≡ step ∷ later = first_of rest (Number 0) c.in-len1-up.len_at_least in
+    let whole : rest ≡ step ∷ later = first_step rest c.in-len1-up.len_at_least in
     let old = last_first c.loop-rest.stack.items in
     let are = and_parts (is_step step) (list_all is_step later) (subst (λ (l : List SumStep). list_all is_step l ≡ true) whole c.loop-rest.invariant.are_steps) in
     let next = c.in_ok-take_step.ensures in
