@@ -1,11 +1,12 @@
 -- The steps of reading the rows of a pattern: entry by entry, and size by size.
 use Rattle.std.proofs.Common.{ℕ, ◌≡◌, ◌≤◌, ◌<◌, ◌-◌, ◌+◌, ◌⊎◌, inl, inr, suc, Bool, true, false, cond, nat_lt, max, List, [], ◌∷◌, ◌++◌, length, take, refl, sym, ap, subst, ◌∙◌, arith, length-append}
-use Rattle.std.specs.Prelude.{count_by}
-use Rattle.std.specs.Str.{chars, IsUtf8, is_utf8}
+use Rattle.std.specs.Prelude.{count_by, Option, Some, None, IfSome}
+use Rattle.std.specs.Str.{bytes_eq, chars, IsUtf8, is_utf8}
 use Rattle.std.proofs.lemmas.List.Sums.{sum_by-cons}
 use Rattle.std.proofs.lemmas.Bool.{and_parts, and_from, ltb-true, lt-ltb, cases_lt}
 use Rattle.std.proofs.lemmas.Str.{IsUtf8-from_is_utf8, is_utf8-from_IsUtf8}
 use Rattle.std.proofs.lemmas.List.{take_at}
+use Rattle.std.proofs.lemmas.Slice.Eq.{bytes_eq-Decides}
 use Rattle.ct_base.specs.Limits.{token_limit}
 use Rattle.ct_keep.specs.Content.{Content}
 use Rattle.ct_entry.specs.declared.kinds.Kind.TheVariants as kind
@@ -24,6 +25,8 @@ use Rattle.ix_rows.specs.Taking.{AreTaken}
 use Rattle.ix_rows.specs.WordRows.{word_term}
 use Rattle.ix_tokens.specs.Tokens.{tokens_prefix, KeyRows, HoldsStream, HasPattern, IsMatchingRow, AreMatchingRows}
 use Rattle.ix_tokens.specs.Scanned.{TokenEntry, token_in, is_matched, is_wanted_entry, length_matches, lengths_matches, matches_count, TakenSoFar}
+use Rattle.ix_tokens.specs.declared.taking.Tried.{Tried}
+use Rattle.ix_tokens.specs.Trying.{IsTried, known_of}
 use Rattle.ix_tokens.specs.Rising.{EachRises}
 use Rattle.ix_tokens.proofs.Rows.{IsSpelt, row_of_entry, entry_of_row, taken_alone, under_token, under_literal, no_nil, parted}
 
@@ -40,15 +43,19 @@ rises_both (x ∷ a) b f g = (f.0, rises_both a b f.1 g)
 pub rises_more : (a : List (List (List WordDocument))) (x : List (List WordDocument)) (next : List (List (List WordDocument))) → next ≡ a ++ x ∷ [] → EachRises a → DocumentsRise number_form 0 (posting_list x) → EachRises next
 rises_more a x next grown rise more = subst EachRises (sym grown) (rises_both a (x ∷ []) rise (more, tt))
 
+-- ---- token by token
+
+-- what is known of the token that was tried last
+pub tried_again : (p : List PatternBit) (literal : List ℕ) (t : Tried) (more : List ℕ) (is : Bool) → IsTried p literal t → known_of t more ≡ Some is → is ≡ is_matched p (literal ++ more)
+tried_again p literal t more is tried known = go (bytes_eq t.more.items more) refl known
+  where
+    go : (b : Bool) → bytes_eq t.more.items more ≡ b → cond b t.known None ≡ Some is → is ≡ is_matched p (literal ++ more)
+    go true same known = subst (λ (o : Option Bool). IfSome o (λ b. b ≡ is_matched p (literal ++ t.more.items))) known tried ∙ ap (λ (bytes : List ℕ). is_matched p (literal ++ bytes)) ((bytes_eq-Decides t.more.items more).0 same)
+    go false other known = cc
+
 -- ---- entry by entry
 
 module _ (wanted : TokenEntry → Bool) (all : List TokenEntry) where
-  pub taken_begins : (rest : List TokenEntry) (tokens : List (List (List WordDocument))) → rest ≡ all → tokens ≡ [] → TakenSoFar wanted all rest tokens
-  taken_begins rest tokens whole none = record {
-    each = λ rows h. absurd (subst (IsIn rows) none h);
-    none_left = λ e h is. inl (subst (IsIn e) (sym whole) h);
-  }
-
   taken_next : (e : TokenEntry) (rest more : List TokenEntry) (tokens : List (List (List WordDocument))) → rest ≡ e ∷ more → TakenSoFar wanted all rest tokens → ((x : TokenEntry) → IsIn x all → x ≡ e → wanted x ≡ true → (rows : List (List WordDocument)) × IsIn rows tokens × AreTaken number_form (x ∷ []) rows) → TakenSoFar wanted all more tokens
   taken_next e rest more tokens is far this = record {
     each = far.each;
@@ -63,10 +70,10 @@ module _ (wanted : TokenEntry → Bool) (all : List TokenEntry) where
       go x h w (inl there) = still x h w (subst (IsIn x) is there)
       go x h w (inr there) = inr there
 
-  pub taken_passed : (e : TokenEntry) (rest more : List TokenEntry) (tokens : List (List (List WordDocument))) → rest ≡ e ∷ more → wanted e ≡ false → TakenSoFar wanted all rest tokens → TakenSoFar wanted all more tokens
+  taken_passed : (e : TokenEntry) (rest more : List TokenEntry) (tokens : List (List (List WordDocument))) → rest ≡ e ∷ more → wanted e ≡ false → TakenSoFar wanted all rest tokens → TakenSoFar wanted all more tokens
   taken_passed e rest more tokens is not far = taken_next e rest more tokens is far (λ x h same w. let wrong : true ≡ false = sym w ∙ ap wanted same ∙ not in absurd (cc))
 
-  pub taken_put : (e : TokenEntry) (rest more : List TokenEntry) (tokens next : List (List (List WordDocument))) (rows : List (List WordDocument)) → rest ≡ e ∷ more → IsIn e all → wanted e ≡ true → AreTaken number_form (e ∷ []) rows → next ≡ tokens ++ rows ∷ [] → TakenSoFar wanted all rest tokens → TakenSoFar wanted all more next
+  taken_put : (e : TokenEntry) (rest more : List TokenEntry) (tokens next : List (List (List WordDocument))) (rows : List (List WordDocument)) → rest ≡ e ∷ more → IsIn e all → wanted e ≡ true → AreTaken number_form (e ∷ []) rows → next ≡ tokens ++ rows ∷ [] → TakenSoFar wanted all rest tokens → TakenSoFar wanted all more next
   taken_put e rest more tokens next rows is among w taken grown far = taken_next e rest more next is put (λ x h same v. (rows, subst (IsIn rows) (sym grown) (in_right rows tokens (rows ∷ []) (inl refl)), subst (λ (y : TokenEntry). AreTaken number_form (y ∷ []) rows) (sym same) taken))
     where
       of_new : (some : List (List WordDocument)) → IsIn some tokens ⊎ IsIn some (rows ∷ []) → (x : TokenEntry) × IsIn x all × (wanted x ≡ true) × AreTaken number_form (x ∷ []) some
@@ -87,7 +94,7 @@ module _ (wanted : TokenEntry → Bool) (all : List TokenEntry) where
 -- ---- how many rows were taken
 
 module _ (wanted : TokenEntry → Bool) where
-  pub count_put : (e : TokenEntry) (rest more : List TokenEntry) (tokens next : List (List (List WordDocument))) (rows : List (List WordDocument)) (all : ℕ) → rest ≡ e ∷ more → wanted e ≡ true → next ≡ tokens ++ rows ∷ []
+  count_put : (e : TokenEntry) (rest more : List TokenEntry) (tokens next : List (List (List WordDocument))) (rows : List (List WordDocument)) (all : ℕ) → rest ≡ e ∷ more → wanted e ≡ true → next ≡ tokens ++ rows ∷ []
       → length tokens + count_by wanted rest ≡ all → length next + count_by wanted more ≡ all
   count_put e rest more tokens next rows all is w grown so_far =
       let split = ap (count_by wanted) is in
@@ -96,12 +103,35 @@ module _ (wanted : TokenEntry → Bool) where
       let long = ap length grown ∙ length-append tokens (rows ∷ []) in
       omega (arith, split, one, value, long, so_far)
 
-  pub count_passed : (e : TokenEntry) (rest more : List TokenEntry) (tokens : List (List (List WordDocument))) (all : ℕ) → rest ≡ e ∷ more → wanted e ≡ false → length tokens + count_by wanted rest ≡ all → length tokens + count_by wanted more ≡ all
+  count_passed : (e : TokenEntry) (rest more : List TokenEntry) (tokens : List (List (List WordDocument))) (all : ℕ) → rest ≡ e ∷ more → wanted e ≡ false → length tokens + count_by wanted rest ≡ all → length tokens + count_by wanted more ≡ all
   count_passed e rest more tokens all is w so_far =
       let split = ap (count_by wanted) is in
       let one = sum_by-cons (λ x. cond (wanted x) 1 0) e more in
       let value = ap {B = ℕ} (λ (t : Bool). cond t 1 0) w in
       omega (arith, split, one, value, so_far)
+
+-- ---- both
+
+module _ (wanted : TokenEntry → Bool) (all : List TokenEntry) where
+  -- What was taken of all entries, where these are still to come.
+  pub record AreTaking (rest : List TokenEntry) (tokens : List (List (List WordDocument))) : Type 0 where
+    pub within : (e : TokenEntry) → IsIn e rest → IsIn e all
+    pub counted : length tokens + count_by wanted rest ≡ count_by wanted all
+    pub taken : TakenSoFar wanted all rest tokens
+
+  pub taking_put : (e : TokenEntry) (rest more : List TokenEntry) (tokens next : List (List (List WordDocument))) (rows : List (List WordDocument)) → rest ≡ e ∷ more → wanted e ≡ true → AreTaken number_form (e ∷ []) rows → next ≡ tokens ++ rows ∷ [] → AreTaking rest tokens → AreTaking more next
+  taking_put e rest more tokens next rows is w taken grown so_far = record {
+    within = λ x h. so_far.within x (subst (IsIn x) (sym is) (inr h));
+    counted = count_put wanted e rest more tokens next rows (count_by wanted all) is w grown so_far.counted;
+    taken = taken_put wanted all e rest more tokens next rows is (so_far.within e (subst (IsIn e) (sym is) (inl refl))) w taken grown so_far.taken;
+  }
+
+  pub taking_passed : (e : TokenEntry) (rest more : List TokenEntry) (tokens : List (List (List WordDocument))) → rest ≡ e ∷ more → wanted e ≡ false → AreTaking rest tokens → AreTaking more tokens
+  taking_passed e rest more tokens is w so_far = record {
+    within = λ x h. so_far.within x (subst (IsIn x) (sym is) (inr h));
+    counted = count_passed wanted e rest more tokens (count_by wanted all) is w so_far.counted;
+    taken = taken_passed wanted all e rest more tokens is w so_far.taken;
+  }
 
 module _ (m : Content) (i : List ℕ) (s : ℕ) (p : List PatternBit) where
   -- the lengths from one on, of which there is one

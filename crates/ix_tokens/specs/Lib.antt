@@ -1,5 +1,6 @@
 pub mod Tokens
 pub mod Scanned
+pub mod Trying
 pub mod Rising
 pub mod Looking
 pub mod Promises

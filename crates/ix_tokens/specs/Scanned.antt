@@ -1,6 +1,7 @@
 -- What is taken of the entries of all tokens of a length that begin with a literal, and how many rows that are.
-use Rattle.std.specs.Prelude.{ℕ, ◌≡◌, ◌+◌, ◌-◌, zero, suc, ◌⊎◌, nat_lt, Bool, true, false, ◌&&◌, List, [], ◌∷◌, ◌++◌, length, take, count_by, codes, refl}
+use Rattle.std.specs.Prelude.{ℕ, ◌≡◌, ◌+◌, ◌-◌, zero, suc, ◌⊎◌, nat_lt, Bool, true, false, ◌&&◌, List, [], ◌∷◌, ◌++◌, length, take, map, count_by, Vec, codes, refl}
 use Rattle.std.specs.Str.{chars, is_utf8}
+use Rattle.std.specs.declared.alloc.Global.{Global}
 use lib.Utf8.{encode}
 use Rattle.ct_keep.specs.Content.{Content}
 use Rattle.ct_entry.specs.declared.kinds.Kind.TheVariants as kind
@@ -37,11 +38,34 @@ pub record TakenSoFar (wanted : TokenEntry → Bool) (all rest : List TokenEntry
   pub each : (rows : List (List WordDocument)) → IsIn rows tokens → (e : TokenEntry) × IsIn e all × (wanted e ≡ true) × AreTaken number_form (e ∷ []) rows
   pub none_left : (e : TokenEntry) → IsIn e all → wanted e ≡ true → IsIn e rest ⊎ ((rows : List (List WordDocument)) × IsIn rows tokens × AreTaken number_form (e ∷ []) rows)
 
+-- WHAT IS TAKEN of some entries: of each that is wanted its rows, by themselves, and of no other; so there are as many as are wanted.
+pub record AreTakenOf (wanted : TokenEntry → Bool) (all : List TokenEntry) (tokens : List (List (List WordDocument))) : Type 0 where
+  pub taken : TakenSoFar wanted all [] tokens
+  pub count : length tokens ≡ count_by wanted all
+
+-- the entries as lists of bytes
+abbrev pub bytes_of_entries : List (Vec ℕ Global × Vec ℕ Global) → List TokenEntry
+bytes_of_entries es = map {B = TokenEntry} (λ e. (e.0.items, e.1.items)) es
+
+-- ---- of the tokens of one length
+
+-- the entries of the rows of all tokens of a length that begin with a literal
+abbrev pub length_entries : Content → List ℕ → ℕ → List ℕ → ℕ → List TokenEntry
+length_entries m i stream literal size = owner_entries kind.Postings i (tokens_prefix stream size literal) m
+
+-- whether one of these is of a token that has the pattern
+abbrev pub is_wanted_of_length : List PatternBit → List ℕ → ℕ → TokenEntry → Bool
+is_wanted_of_length p literal size e = is_wanted_entry p literal (size - length literal) e
+
+-- the rows of those that have a pattern
+abbrev pub AreRowsOfLength : Content → List ℕ → ℕ → List PatternBit → List ℕ → ℕ → List (List (List WordDocument)) → Type 0
+AreRowsOfLength m i stream p literal size tokens = AreTakenOf (is_wanted_of_length p literal size) (length_entries m i stream literal size) tokens
+
 -- ---- of all tokens of a stream
 
 -- how many rows the tokens of a length have that have a pattern
 abbrev pub length_matches : Content → List ℕ → ℕ → List PatternBit → ℕ → ℕ
-length_matches m i stream p size = count_by (is_wanted_entry p (leading_literal p) (size - length (leading_literal p))) (owner_entries kind.Postings i (tokens_prefix stream size (leading_literal p)) m)
+length_matches m i stream p size = count_by (is_wanted_of_length p (leading_literal p) size) (length_entries m i stream (leading_literal p) size)
 
 -- those of so many lengths, from one on
 abbrev pub lengths_matches : Content → List ℕ → ℕ → List PatternBit → ℕ → ℕ → ℕ
@@ -52,7 +76,19 @@ lengths_matches m i stream p (suc n) from = length_matches m i stream p from + l
 abbrev pub matches_count : Content → List ℕ → ℕ → List PatternBit → ℕ
 matches_count m i stream p = lengths_matches m i stream p (256 - least_length (leading_literal p)) (least_length (leading_literal p))
 
--- computed examples: `cafe` in the documents from 1 on
+-- ---- computed examples
+
+none_taken : (wanted : TokenEntry → Bool) (tokens : List (List (List WordDocument))) → AreTakenOf wanted [] tokens → length tokens ≡ 0
+none_taken wanted tokens taken = taken.count
+
+no_entries : bytes_of_entries [] ≡ []
+no_entries = refl
+
+-- `cafe` in the documents from 1 on: of four bytes the token has one more than `caf`
+of_four_bytes : is_wanted_of_length (Chars (codes "caf") ∷ Many ∷ []) (codes "caf") 4 (codes "e" ++ 0 ∷ 0 ∷ 0 ∷ 1 ∷ [], []) ≡ true
+unfolding is_utf8 chars encode
+of_four_bytes = refl
+
 cafe_wanted : is_wanted_entry (Chars (codes "caf") ∷ Many ∷ []) (codes "caf") 1 (codes "e" ++ 0 ∷ 0 ∷ 0 ∷ 1 ∷ [], []) ≡ true
 unfolding is_utf8 chars encode
 cafe_wanted = refl

@@ -58,6 +58,14 @@ pub record AreMatchingRows (held : KeyRows) (stream : ℕ) (p : List PatternBit)
   pub each : EachIs (IsMatchingRow held stream p) all
   pub none_left : (token : List ℕ) → HasPattern p token → (row : List WordDocument) → IsIn row (held stream token) → IsIn (row ∷ []) all
 
--- computed example
+-- These are the rows, whichever rows a content holds of each token of the stream.
+abbrev pub AreMatchesIn : Content → List ℕ → ℕ → List PatternBit → List (List (List WordDocument)) → Type 0
+AreMatchesIn m i stream p all = (held : KeyRows) → HoldsStream m i stream held → AreMatchingRows held stream p all
+
+-- computed examples
 of_five_bytes : tokens_prefix 0 5 (leading_literal (Chars (codes "caf") ∷ Many ∷ [])) ≡ 0 ∷ 5 ∷ codes "caf"
 of_five_bytes = refl
+
+-- what a content holds of no token isn't given
+none_held : (m : Content) (i : List ℕ) (p : List PatternBit) (all : List (List (List WordDocument))) → AreMatchesIn m i 0 p all → HoldsStream m i 0 (λ stream token. []) → EachIs (IsMatchingRow (λ stream token. []) 0 p) all
+none_held m i p all are holds = (are (λ stream token. []) holds).each

@@ -1,16 +1,13 @@
 //! The rows of the tokens that a pattern takes, read from a keeper.
 #![tactic(auto, using(ct_keep::specs::laws::Composing::reads_on, ct_keep::specs::laws::Composing::reads_short))]
 
-ghost use Rattle.std.specs.Prelude.{◌≡◌, ◌≤◌, ◌-◌, ◌++◌, [], length, count_by, IfOk, OnOk};
+ghost use Rattle.std.specs.Prelude.{◌≡◌, ◌≤◌, ◌++◌, length, IfOk, OnOk};
 ghost use Rattle.ct_keep.specs.KeeperViews.{Finds, OnlyReads, Told};
 ghost use Rattle.ct_keep.specs.Looks.{LooksAtMost};
-ghost use Rattle.ct_entry.specs.declared.kinds.Kind.TheVariants as kind;
-ghost use Rattle.ct_entry.specs.Listings.{owner_entries};
-ghost use Rattle.q_match.specs.Literals.{leading_literal};
 ghost use Rattle.ix_tokens.specs.Looking.{length_looks, pattern_looks};
 ghost use Rattle.ix_tokens.specs.Rising.{EachRises};
-ghost use Rattle.ix_tokens.specs.Scanned.{TakenSoFar, is_wanted_entry, matches_count};
-ghost use Rattle.ix_tokens.specs.Tokens.{AreMatchingRows, HoldsStream, KeyRows, tokens_prefix};
+ghost use Rattle.ix_tokens.specs.Scanned.{AreRowsOfLength, matches_count};
+ghost use Rattle.ix_tokens.specs.Tokens.{AreMatchesIn, tokens_prefix};
 
 use crate::taking::rows_of_entries;
 use ct_base::{Memory, Name, TOKEN_LIMIT};
@@ -45,8 +42,7 @@ fn rows_of_size<K: Keeper>(
     requires ready { (K.view keeper.old).ready }
     requires long { length literal.now ≤ size }
     ensures rise { IfOk result (λ tokens. EachRises tokens.items) }
-    ensures rows { Finds K.view keeper.old result (λ m tokens. TakenSoFar (is_wanted_entry pattern.now literal.now (size - length literal.now)) (owner_entries kind.Postings index.now (tokens_prefix stream size literal.now) m) [] tokens.items) }
-    ensures count { Finds K.view keeper.old result (λ m tokens. length tokens.items ≡ count_by (is_wanted_entry pattern.now literal.now (size - length literal.now)) (owner_entries kind.Postings index.now (tokens_prefix stream size literal.now) m)) }
+    ensures rows { Finds K.view keeper.old result (λ m tokens. AreRowsOfLength m index.now stream pattern.now literal.now size tokens.items) }
     ensures reads { OnlyReads K.view keeper.old keeper.new result }
     ensures at_most { Told K.view keeper.old (λ m. LooksAtMost K.view keeper.old keeper.new (length_looks m index.now stream literal.now size)) }
 {
@@ -68,8 +64,8 @@ fn put_all(tokens: &mut Vec<EncodedRows<u32>>, found: Vec<EncodedRows<u32>>) -> 
 /// The rows of all stored tokens of a stream that have a pattern, each row by itself. Their number has no limit.
 ///
 /// A key has the length of its token before the token. So it makes a scan for each length, of the rows of the tokens that begin with the
-/// leading literal of the pattern. It costs what it scans, and for each row the length of the pattern times that of its token; and beside
-/// what it gives it holds what one scan found. It never answers Full.
+/// leading literal of the pattern. It costs what it scans, and for each token among these the length of the pattern times that of the
+/// token; and beside what it gives it holds what one scan found. It never answers Full.
 pub fn rows_of_pattern<K: Keeper>(
     alloc: Global,
     keeper: &mut K,
@@ -79,7 +75,7 @@ pub fn rows_of_pattern<K: Keeper>(
 ) -> Result<Vec<EncodedRows<u32>>, KeepFault>
     requires { (K.view keeper.old).ready }
     ensures rise { IfOk result (λ tokens. EachRises tokens.items) }
-    ensures rows { Finds K.view keeper.old result (λ m tokens. (held : KeyRows) → HoldsStream m index.now stream held → AreMatchingRows held stream pattern.now tokens.items) }
+    ensures rows { Finds K.view keeper.old result (λ m tokens. AreMatchesIn m index.now stream pattern.now tokens.items) }
     ensures count { Finds K.view keeper.old result (λ m tokens. length tokens.items ≡ matches_count m index.now stream pattern.now) }
     ensures reads { OnlyReads K.view keeper.old keeper.new result }
     ensures at_most { Told K.view keeper.old (λ m. LooksAtMost K.view keeper.old keeper.new (pattern_looks m index.now stream pattern.now)) }

@@ -1,16 +1,12 @@
-use Rattle.std.proofs.Common.{◌≡◌, ◌≤◌, ◌-◌, ◌+◌, ℕ, List, [], length, sym, subst, ◌∙◌, arith}
-use Rattle.std.specs.Prelude.{count_by}
+use Rattle.std.proofs.Common.{◌≡◌, ◌≤◌, ◌-◌, ◌+◌, ℕ, List, sym, subst, ◌∙◌, arith}
 use Rattle.std.specs.Str.{IsUtf8}
 use Rattle.ct_keep.specs.KeeperViews.{Counts}
 use Rattle.ct_keep.specs.Looks.{RisesBy}
 use Rattle.ct_keep.specs.laws.Composing.{reads_on, reads_hold}
-use Rattle.ct_entry.specs.declared.kinds.Kind.TheVariants as kind
-use Rattle.ct_entry.specs.Listings.{owner_entries}
 use Rattle.q_match.specs.Literals.{leading_literal}
 use Rattle.ix_tokens.specs.Looking.{length_looks, lengths_looks, pattern_looks, LooksLeft}
 use Rattle.ix_tokens.specs.Rising.{EachRises}
-use Rattle.ix_tokens.specs.Scanned.{TakenSoFar, is_wanted_entry}
-use Rattle.ix_tokens.specs.Tokens.{tokens_prefix}
+use Rattle.ix_tokens.specs.Scanned.{AreRowsOfLength}
 use Rattle.ix_tokens.proofs.Looks.{length_looked, looks_on, one_length_more}
 use Rattle.ix_tokens.proofs.Steps.{counts_end, counts_on, rises_both, size_more, sizes_end}
 use Rattle.ix_tokens.proofs.reading.rows_of_pattern.Goals as goal
@@ -36,23 +32,24 @@ loop-size-preserved g c =
     let mid = (g.K.Keeper.view c.loop-size.keeper).counts in
     let new = (g.K.Keeper.view c.rows_of_size.new.keeper).counts in
     let low : n ≤ 255 = omega (arith, c.loop-size-test.true) in
+    let found = c.in_ok-found.found.items in
     record {
       reads = reads_on _ _ _ _ c.loop-size.invariant.reads c.in_ok-found.ensures.reads;
       looks = λ m told.
           looks_on (length_looks m i s (leading_literal p) n) (lengths_looks m i s (leading_literal p) (256 - (n + 1)) (n + 1)) (pattern_looks m i s p) old mid new
           (subst (λ (x : Counts). LooksLeft x (pattern_looks m i s p) old mid) (one_length_more m i s (leading_literal p) n low) (c.loop-size.invariant.looks m told))
           (subst (λ (l : List ℕ). RisesBy (length_looks m i s l n) mid new) literal (c.in_ok-found.ensures.at_most m (reads_hold _ _ m c.loop-size.invariant.reads told)));
-      rise = subst EachRises (sym c.in_ok-put_all.ensures) (rises_both c.loop-size.tokens.items c.in_ok-found.found.items c.loop-size.invariant.rise c.in_ok-found.ensures.rise);
+      rise = subst EachRises (sym c.in_ok-put_all.ensures) (rises_both c.loop-size.tokens.items found c.loop-size.invariant.rise c.in_ok-found.ensures.rise);
       counted = λ m told.
-          counts_on m i s p n c.loop-size.tokens.items c.in_ok-found.found.items c.put_all.new.tokens.items low
-          (subst (λ (l : List ℕ). length c.in_ok-found.found.items ≡ count_by (is_wanted_entry p l (n - length l)) (owner_entries kind.Postings i (tokens_prefix s n l) m)) literal (c.in_ok-found.ensures.count m (reads_hold _ _ m c.loop-size.invariant.reads told)))
+          counts_on m i s p n c.loop-size.tokens.items found c.put_all.new.tokens.items low
+          (subst (λ (l : List ℕ). AreRowsOfLength m i s p l n found) literal (c.in_ok-found.ensures.rows m (reads_hold _ _ m c.loop-size.invariant.reads told))).count
           c.in_ok-put_all.ensures (c.loop-size.invariant.counted m told);
       some = let some = c.loop-size.invariant.some in omega (arith, some);
       long = let long = c.loop-size.invariant.long in omega (arith, long);
       rows = λ m held told holds.
-          size_more m i s p held holds n c.loop-size.invariant.long c.loop-size.invariant.some low c.leading_literal_law.ensures (subst IsUtf8 c.leading_literal-literal.ensures c.leading_literal-literal.utf8) c.loop-size.tokens.items c.in_ok-found.found.items c.put_all.new.tokens.items
+          size_more m i s p held holds n c.loop-size.invariant.long c.loop-size.invariant.some low c.leading_literal_law.ensures (subst IsUtf8 c.leading_literal-literal.ensures c.leading_literal-literal.utf8) c.loop-size.tokens.items found c.put_all.new.tokens.items
           (c.loop-size.invariant.rows m held told holds)
-          (subst (λ (l : List ℕ). TakenSoFar (is_wanted_entry p l (n - length l)) (owner_entries kind.Postings i (tokens_prefix s n l) m) [] c.in_ok-found.found.items) literal (c.in_ok-found.ensures.rows m (reads_hold _ _ m c.loop-size.invariant.reads told)))
+          (subst (λ (l : List ℕ). AreRowsOfLength m i s p l n found) literal (c.in_ok-found.ensures.rows m (reads_hold _ _ m c.loop-size.invariant.reads told))).taken
           c.in_ok-put_all.ensures;
     }
 
