@@ -4,5 +4,6 @@ pub mod Walks
 pub mod Reaching
 pub mod Searches
 pub mod PlaceSteps
+pub mod Gathering
 pub mod Frontiers
 pub mod SomeKeys

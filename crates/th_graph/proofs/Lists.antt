@@ -1,11 +1,12 @@
 -- Elements of lists, found by tests.
-use Rattle.std.proofs.Common.{◌≡◌, ◌<◌, ◌≤◌, ℕ, zero, suc, Bool, true, false, List, [], ◌∷◌, length, Some, None, refl, sym, ap, ◌∙◌, arith, ◌-◌}
+use Rattle.std.proofs.Common.{◌≡◌, ◌<◌, ◌≤◌, ℕ, zero, suc, Bool, true, false, List, [], ◌∷◌, ◌++◌, length, take, drop, get_or, Some, None, refl, sym, ap, ◌∙◌, arith, ◌-◌}
 use Rattle.std.specs.Prelude.{◌||◌}
 use Rattle.std.specs.List.{list_any, flat_map, slice_get}
 use Rattle.std.specs.Str.{bytes_eq}
 use Rattle.std.proofs.lemmas.Bool.{false≢true, or_left, or_right}
 use Rattle.std.proofs.lemmas.List.Folds.{list_any-append}
 use Rattle.std.proofs.lemmas.Slice.Eq.{bytes_eq-Decides}
+use Rattle.ct_base.specs.laws.Lists.{first_of}
 use Rattle.th_graph.specs.Rising.{is_among_terms}
 
 or_four : (a b c d : Bool) → ((a || b) || (c || d)) ≡ ((a || c) || (b || d))
@@ -44,6 +45,14 @@ module _ {X : Type 0} where
   any_from f [] (suc i) x at passes = cc
   any_from f (y ∷ ys) zero x at passes = let e : y ≡ x = cc in or_left (f y) (list_any f ys) (ap f e ∙ passes)
   any_from f (y ∷ ys) (suc i) x at passes = or_right (f y) (list_any f ys) (any_from f ys i x at passes)
+
+-- what a function gives of some places is what it gives of the first, and of the others
+pub flat_first : {X : Type 0} (f : ℕ → List X) (places : List ℕ) → 1 ≤ length places → flat_map f places ≡ f (get_or places 0 0) ++ flat_map f (take (length places - 1) (drop 1 places))
+flat_first f places some = ap (flat_map f) (first_of places (get_or places 0 0) some (same places))
+  where
+    same : (xs : List ℕ) → get_or xs 0 0 ≡ get_or xs 0 (get_or xs 0 0)
+    same [] = refl
+    same (x ∷ xs) = refl
 
 -- a term that is among them is one of them
 pub among_one : (f : List ℕ → Bool) (c : List ℕ) (ts : List (List ℕ)) → is_among_terms c ts ≡ true → f c ≡ true → list_any f ts ≡ true

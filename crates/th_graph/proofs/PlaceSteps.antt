@@ -1,7 +1,6 @@
 -- What stands at the places that were noted for a term is what all pairs have of it.
 use Rattle.std.proofs.Common.{◌≡◌, ℕ, zero, suc, Bool, true, false, cond, List, [], ◌∷◌, ◌++◌, length, Option, Some, None, refl, sym, ap, subst, ◌∙◌, ◌⊎◌, inl, inr}
 use Rattle.std.specs.Prelude.{◌&&◌, ◌||◌, ◌==◌}
-use Rattle.std.specs.Bool.{if◌then◌else◌}
 use Rattle.std.specs.List.{list_any, flat_map, slice_get}
 use Rattle.std.specs.Str.{bytes_eq}
 use Rattle.std.proofs.lemmas.Bool.{false≢true, and_parts, eq-eqb, eqb-true, or_cases}
@@ -17,7 +16,7 @@ use Rattle.th_graph.specs.Rising.{is_among_terms}
 use Rattle.th_graph.specs.Pairs.{has_term_pair, term_pair, same_kind, same_term_pair}
 use Rattle.th_graph.specs.Relating.{has_preferred, prefers}
 use Rattle.th_graph.specs.Expansions.{backward, forward, next_of, next_terms}
-use Rattle.th_graph.specs.Places.{AreNoted, is_noted, next_at, next_by, passes, passes_at, TermPlaces, noted_places}
+use Rattle.th_graph.specs.Places.{AreNoted, is_noted, next_at, next_by, passes, passes_at, TermPlaces, noted_places, with_place}
 use Rattle.th_graph.proofs.Lists.{among_flat, any_alike, any_from, any_where}
 
 passing : (test : TermPair → Bool) (o : Option TermPair) → passes test o ≡ true → (p : TermPair) × (o ≡ Some p) × (test p ≡ true)
@@ -66,21 +65,17 @@ module _ (ps : List TermPair) (m : TermPlaces) (noted : AreNoted ps m) where
 
   -- ---- what is next
 
+  -- where a test of a kind and of a term gives something, the term passed
+  of_test : (k e : Bool) (q x : List ℕ) → is_among_terms q (cond (k && e) (x ∷ []) []) ≡ true → e ≡ true
+  of_test true true q x h = refl
+  of_test true false q x h = absurd (false≢true h)
+  of_test false e q x h = absurd (false≢true h)
+
   of_forward : (kind : PairKind) (t q : List ℕ) (p : TermPair) → is_among_terms q (forward kind t p) ≡ true → bytes_eq t p.first ≡ true
-  of_forward kind t q p h = go (same_kind kind p.kind) (bytes_eq t p.first) h
-    where
-      go : (k e : Bool) → is_among_terms q (cond (k && e) (p.second ∷ []) []) ≡ true → e ≡ true
-      go true true h = refl
-      go true false h = absurd (false≢true h)
-      go false e h = absurd (false≢true h)
+  of_forward kind t q p h = of_test (same_kind kind p.kind) (bytes_eq t p.first) q p.second h
 
   of_backward : (kind : PairKind) (t q : List ℕ) (p : TermPair) → is_among_terms q (backward kind t p) ≡ true → bytes_eq t p.second ≡ true
-  of_backward kind t q p h = go (same_kind kind p.kind) (bytes_eq t p.second) h
-    where
-      go : (k e : Bool) → is_among_terms q (cond (k && e) (p.first ∷ []) []) ≡ true → e ≡ true
-      go true true h = refl
-      go true false h = absurd (false≢true h)
-      go false e h = absurd (false≢true h)
+  of_backward kind t q p h = of_test (same_kind kind p.kind) (bytes_eq t p.second) q p.first h
 
   next_noted : (r : Relation) (t q : List ℕ) (i : ℕ) (p : TermPair) → slice_get ps i ≡ Some p → is_among_terms q (next_of r t p) ≡ true → list_any (λ j. j == i) (noted_places t m) ≡ true
   next_noted Syn t q i p at h = go (or_cases (is_among_terms q (forward Synonyms t p)) (is_among_terms q (backward Synonyms t p)) (sym (list_any-append (bytes_eq q) (forward Synonyms t p) (backward Synonyms t p)) ∙ h))
@@ -105,7 +100,7 @@ module _ (ps : List TermPair) (m : TermPlaces) (noted : AreNoted ps m) where
 
 -- ---- one pair more
 
-noted_more : (old new : TermPlaces) (t : List ℕ) (place : ℕ) → ((q : List ℕ) → noted_places q new ≡ (if bytes_eq q t then noted_places q old ++ place ∷ [] else noted_places q old))
+noted_more : (old new : TermPlaces) (t : List ℕ) (place : ℕ) → ((q : List ℕ) → noted_places q new ≡ with_place t place old q)
     → (q : List ℕ) (i : ℕ) → is_noted old q i ≡ true → is_noted new q i ≡ true
 noted_more old new t place adds q i h = ap (list_any (λ j. j == i)) (adds q) ∙ go (bytes_eq q t)
   where
@@ -113,7 +108,7 @@ noted_more old new t place adds q i h = ap (list_any (λ j. j == i)) (adds q) �
     go true = list_any-append (λ j. j == i) (noted_places q old) (place ∷ []) ∙ ap (λ (b : Bool). b || list_any (λ j. j == i) (place ∷ [])) h
     go false = h
 
-noted_now : (old new : TermPlaces) (t : List ℕ) (place : ℕ) → ((q : List ℕ) → noted_places q new ≡ (if bytes_eq q t then noted_places q old ++ place ∷ [] else noted_places q old)) → is_noted new t place ≡ true
+noted_now : (old new : TermPlaces) (t : List ℕ) (place : ℕ) → ((q : List ℕ) → noted_places q new ≡ with_place t place old q) → is_noted new t place ≡ true
 noted_now old new t place adds =
     ap (list_any (λ j. j == place)) (adds t ∙ ap (λ (b : Bool). cond b (noted_places t old ++ place ∷ []) (noted_places t old)) ((bytes_eq-Decides t t).1 refl))
     ∙ list_any-append (λ j. j == place) (noted_places t old) (place ∷ [])
@@ -124,7 +119,7 @@ noted_now old new t place adds =
     last false = ap (λ (b : Bool). b || false) (eq-eqb place place refl)
 
 pub record Notes (old new : TermPlaces) (t : List ℕ) (place : ℕ) : Type 0 where
-  pub adds : (q : List ℕ) → noted_places q new ≡ (if bytes_eq q t then noted_places q old ++ place ∷ [] else noted_places q old)
+  pub adds : (q : List ℕ) → noted_places q new ≡ with_place t place old q
 
 -- more places do no harm
 pub still_noted : (ps : List TermPair) (old new : TermPlaces) (t : List ℕ) (place : ℕ) → Notes old new t place → AreNoted ps old → AreNoted ps new

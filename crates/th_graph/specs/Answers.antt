@@ -1,5 +1,5 @@
 -- What the calls of an expansion answer.
-use Rattle.std.specs.Prelude.{ℕ, ◌≡◌, ◌<◌, ◌≤◌, true, false, not, ◌&&◌, ◌||◌, List, [], ◌∷◌, length, replicate, codes, Vec, Result, Ok, Err}
+use Rattle.std.specs.Prelude.{ℕ, ◌≡◌, ◌<◌, ◌≤◌, true, false, not, ◌&&◌, ◌||◌, List, [], ◌∷◌, length, replicate, codes, Vec, Result, Ok, Err, refl}
 use Rattle.std.proofs.Common.{lit<}
 use Rattle.std.specs.declared.alloc.Global.{Global}
 use Rattle.th_graph.specs.declared.faults.ExpandFault.{ExpandFault}
@@ -26,10 +26,16 @@ pub record AreWithinLimit (terms : List (List ℕ)) : Type 0 where
 abbrev pub AreNew : List (List ℕ) → List (List ℕ) → List (List ℕ) → List (List ℕ) → Type 0
 AreNew was now found more = (q : List ℕ) → is_among_terms q now ≡ (is_among_terms q was || (is_among_terms q more && not (is_among_terms q found)))
 
--- These terms were put among those that were found; or these are too many with them.
-abbrev pub PutsTerms : {T : Type 0} → Result T ExpandFault → List (List ℕ) → List (List ℕ) → List (List ℕ) → Type 0
-PutsTerms (Ok done) old new more = (new ≡ with_ordered_terms old more) × AreWithinLimit new
-PutsTerms (Err fault) old new more = IsTooMany fault (with_ordered_terms old more)
+-- these terms were put among those that were found, and behind the new ones those of them that weren't found
+pub record Gathered (found newer found' newer' more : List (List ℕ)) : Type 0 where
+  pub among : found' ≡ with_ordered_terms found more
+  pub limit : AreWithinLimit found'
+  pub new : AreNew newer newer' found more
+
+-- These terms were put; or they are too many with those that were found.
+abbrev pub Gathers : {T : Type 0} → Result T ExpandFault → List (List ℕ) → List (List ℕ) → List (List ℕ) → List (List ℕ) → List (List ℕ) → Type 0
+Gathers (Ok done) found newer found' newer' more = Gathered found newer found' newer' more
+Gathers (Err fault) found newer found' newer' more = IsTooMany fault (with_ordered_terms found more)
 
 -- computed examples
 too_many : IsTooMany TooMany (replicate 1025 (codes "dog"))
@@ -41,3 +47,7 @@ cat_is_new now new = new (codes "cat")
 
 dog_is_not : (now : List (List ℕ)) → AreNew [] now (codes "dog" ∷ []) (codes "cat" ∷ codes "dog" ∷ []) → is_among_terms (codes "dog") now ≡ false
 dog_is_not now new = new (codes "dog")
+
+-- `cat` stands before `dog` then
+found_in_order : with_ordered_terms (codes "dog" ∷ []) (codes "cat" ∷ codes "dog" ∷ []) ≡ codes "cat" ∷ codes "dog" ∷ []
+found_in_order = refl

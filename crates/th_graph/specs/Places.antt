@@ -1,5 +1,6 @@
 -- Which pairs of a thesaurus have a term, by their places in the list.
-use Rattle.std.specs.Prelude.{ℕ, ◌≡◌, ◌==◌, Bool, true, false, List, [], ◌∷◌, Option, Some, None, String, Vec, refl}
+use Rattle.std.specs.Prelude.{ℕ, ◌≡◌, ◌==◌, Bool, true, false, List, [], ◌∷◌, ◌++◌, Option, Some, None, String, Vec, bytes_eq, codes, refl}
+use Rattle.std.specs.Bool.{if◌then◌else◌}
 use Rattle.std.specs.List.{list_any, slice_get}
 use Rattle.std.specs.Option.{option_map_or}
 use Rattle.std.specs.declared.alloc.Global.{Global}
@@ -18,6 +19,10 @@ noted_places term m = option_map_or (λ v. v.items) (get_by_text m term) []
 
 abbrev pub is_noted : TermPlaces → List ℕ → ℕ → Bool
 is_noted m term place = list_any (λ j. j == place) (noted_places term m)
+
+-- those of each term, after a place more was noted for one of them
+abbrev pub with_place : List ℕ → ℕ → TermPlaces → List ℕ → List ℕ
+with_place term place m t = if bytes_eq t term then noted_places t m ++ place ∷ [] else noted_places t m
 
 -- Each pair is noted for both of its terms. What is noted beside does no harm, since a place is looked at before it is believed.
 abbrev pub AreNoted : List TermPair → TermPlaces → Type 0
@@ -39,6 +44,15 @@ next_by relation term (Some p) = next_of relation term p
 abbrev pub next_at : List TermPair → Relation → List ℕ → ℕ → List (List ℕ)
 next_at ps relation term i = next_by relation term (slice_get ps i)
 
--- computed example: no pair stands behind the last
+-- ---- computed examples
+
+-- a place more for `dog` is none for `cat`
+for_dog : (m : TermPlaces) → with_place (codes "dog") 3 m (codes "dog") ≡ noted_places (codes "dog") m ++ 3 ∷ []
+for_dog m = refl
+
+not_for_cat : (m : TermPlaces) → with_place (codes "dog") 3 m (codes "cat") ≡ noted_places (codes "cat") m
+not_for_cat m = refl
+
+-- no pair stands behind the last
 none_behind : (p : TermPair) → passes_at (p ∷ []) (λ _. true) 1 ≡ false
 none_behind p = refl

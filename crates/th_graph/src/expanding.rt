@@ -1,13 +1,15 @@
 //! The expansion of a term.
 
-ghost use Rattle.std.specs.Prelude.{◌≡◌, ◌≤◌, ◌++◌, ◌∷◌, [], ℕ, List, IfOk, OnOk, length};
+ghost use Rattle.std.specs.Prelude.{◌≡◌, ◌≤◌, ◌++◌, ◌∷◌, [], OnOk, length};
+ghost use Rattle.std.specs.Bool.{if◌then◌else◌};
 ghost use Rattle.std.specs.List.{flat_map, insert};
-ghost use Rattle.th_graph.specs.Answers.{AreWithinLimit, AreNew, Expands, PutsTerms};
-ghost use Rattle.th_graph.specs.Expansions.{expansion, next_terms, or_itself, terms_within};
+ghost use Rattle.th_graph.specs.Answers.{AreWithinLimit, Expands, Gathers};
+ghost use Rattle.th_graph.specs.Expansions.{expansion, next_of, next_terms, or_itself, terms_within};
 ghost use Rattle.th_graph.specs.Places.{next_at};
-ghost use Rattle.th_graph.specs.Rising.{is_among_terms, with_ordered_terms};
+ghost use Rattle.th_graph.specs.Rising.{with_ordered_terms};
 
 use crate::faults::ExpandFault;
+use crate::pairs::{PairKind, TermPair};
 use crate::searching::search;
 use crate::terms::Term;
 use crate::thesauri::Thesaurus;
@@ -21,8 +23,7 @@ pub const EXPANSION_LIMIT: u32 = 1024;
 /// Puts a term among those that were found, and behind the new ones, unless it was found already.
 fn put_term(found: &mut Vec<Term>, newer: &mut Vec<Term>, term: &Term) -> Result<(), ExpandFault>
     requires { AreWithinLimit found.old.items }
-    ensures found { PutsTerms result found.old.items found.new.items (term.now ∷ []) }
-    ensures newer { OnOk result (AreNew newer.old.items newer.new.items found.old.items (term.now ∷ [])) }
+    ensures { Gathers result found.old.items newer.old.items found.new.items newer.new.items (term.now ∷ []) }
 {
     let Err(place) = search(found.as_slice(), term) else {
         return Ok(());
@@ -50,22 +51,55 @@ fn push_copy(terms: &mut Vec<Term>, term: &Term) -> Result<(), Memory>
     Ok(())
 }
 
-/// Puts terms among those that were found, and those of them that weren't found yet behind the new ones.
-fn put_terms(
+/// Puts a copy of a term, where a test passed.
+fn put_if(
+    passed: bool,
+    term: &Term,
     found: &mut Vec<Term>,
     newer: &mut Vec<Term>,
-    terms: &[Term],
 ) -> Result<(), ExpandFault>
     requires { AreWithinLimit found.old.items }
-    ensures found { PutsTerms result found.old.items found.new.items terms.now }
-    ensures newer { OnOk result (AreNew newer.old.items newer.new.items found.old.items terms.now) }
+    ensures { Gathers result found.old.items newer.old.items found.new.items newer.new.items (if passed then term.now ∷ [] else []) }
 {
-    let mut rest = terms;
-    while let [term, later @ ..] = rest {
-        put_term(found, newer, term)?;
-        rest = later;
+    if passed {
+        return put_term(found, newer, term);
     }
     Ok(())
+}
+
+impl TermPair {
+    /// Puts copies of the terms to which the pair leads from this one.
+    fn put_next(
+        &self,
+        relation: Relation,
+        term: &Term,
+        found: &mut Vec<Term>,
+        newer: &mut Vec<Term>,
+    ) -> Result<(), ExpandFault>
+        requires { AreWithinLimit found.old.items }
+        ensures { Gathers result found.old.items newer.old.items found.new.items newer.new.items (next_of relation term.now self.now) }
+    {
+        match relation {
+            Relation::Syn => {
+                let begins = self.begins(PairKind::Synonyms, term);
+                put_if(begins, &self.second, found, newer)?;
+                let ends = self.ends(PairKind::Synonyms, term);
+                put_if(ends, &self.first, found, newer)
+            }
+            Relation::Broader => {
+                let begins = self.begins(PairKind::ToBroader, term);
+                put_if(begins, &self.second, found, newer)
+            }
+            Relation::Narrower => {
+                let ends = self.ends(PairKind::ToBroader, term);
+                put_if(ends, &self.first, found, newer)
+            }
+            Relation::Preferred => {
+                let begins = self.begins(PairKind::ToPreferred, term);
+                put_if(begins, &self.second, found, newer)
+            }
+        }
+    }
 }
 
 impl Thesaurus {
@@ -76,53 +110,54 @@ impl Thesaurus {
         relation: Relation,
         term: &Term,
         found: &mut Vec<Term>,
-    ) -> Result<(), Memory>
-        ensures { OnOk result (found.new.items ≡ found.old.items ++ next_at self.now relation term.now place) }
+        newer: &mut Vec<Term>,
+    ) -> Result<(), ExpandFault>
+        requires { AreWithinLimit found.old.items }
+        ensures { Gathers result found.old.items newer.old.items found.new.items newer.new.items (next_at self.now relation term.now place) }
     {
         match self.pairs.get(place) {
-            Some(pair) => pair.put_next(relation, term, found),
+            Some(pair) => pair.put_next(relation, term, found, newer),
             None => Ok(()),
         }
     }
 
-    /// Copies of the terms to which one step leads from this one, in no order. Its cost is the number of pairs that the term has.
-    fn next_terms(
+    /// Puts copies of the terms to which one step leads from this one. It looks at each pair that the term has, and copies only terms that
+    /// weren't found yet.
+    fn put_next_terms(
         &self,
-        alloc: Global,
         relation: Relation,
         term: &Term,
-    ) -> Result<Vec<Term>, Memory>
-        ensures { IfOk result (λ v. (q : List ℕ) → is_among_terms q v.items ≡ is_among_terms q (next_terms self.now relation term.now)) }
+        found: &mut Vec<Term>,
+        newer: &mut Vec<Term>,
+    ) -> Result<(), ExpandFault>
+        requires { AreWithinLimit found.old.items }
+        ensures { Gathers result found.old.items newer.old.items found.new.items newer.new.items (next_terms self.now relation term.now) }
     {
-        let mut next = Vec::new(alloc);
         let mut rest = self.places.of(term);
         while let [place, later @ ..] = rest {
-            self.put_next_at(*place, relation, term, &mut next)?;
+            self.put_next_at(*place, relation, term, found, newer)?;
             rest = later;
         }
-        Ok(next)
+        Ok(())
     }
 
-    /// Puts the terms to which one step leads from the fresh ones among those that were found. Gives those that weren't found yet.
+    /// Puts copies of the terms to which one step leads from the fresh ones.
     fn widen(
         &self,
-        alloc: Global,
         relation: Relation,
         found: &mut Vec<Term>,
+        newer: &mut Vec<Term>,
         fresh: &[Term],
-    ) -> Result<Vec<Term>, ExpandFault>
+    ) -> Result<(), ExpandFault>
         requires { AreWithinLimit found.old.items }
-        ensures found { PutsTerms result found.old.items found.new.items (flat_map (next_terms self.now relation) fresh.now) }
-        ensures newer { IfOk result (λ v. AreNew [] v.items found.old.items (flat_map (next_terms self.now relation) fresh.now)) }
+        ensures { Gathers result found.old.items newer.old.items found.new.items newer.new.items (flat_map (next_terms self.now relation) fresh.now) }
     {
-        let mut newer = Vec::new(alloc);
         let mut rest = fresh;
         while let [term, later @ ..] = rest {
-            let next = self.next_terms(alloc, relation, term)?;
-            put_terms(found, &mut newer, &next)?;
+            self.put_next_terms(relation, term, found, newer)?;
             rest = later;
         }
-        Ok(newer)
+        Ok(())
     }
 
     /// The terms within so many steps of a term. Each of them is looked at once.
@@ -141,7 +176,9 @@ impl Thesaurus {
         push_copy(&mut fresh, term)?;
         let mut left = rounds;
         while left > 0 && !fresh.is_empty() {
-            fresh = self.widen(alloc, relation, &mut found, &fresh)?;
+            let mut newer = Vec::new(alloc);
+            self.widen(relation, &mut found, &mut newer, &fresh)?;
+            fresh = newer;
             left -= 1;
         }
         Ok(found)
@@ -151,10 +188,9 @@ impl Thesaurus {
     fn preferred(&self, alloc: Global, term: &Term) -> Result<Vec<Term>, ExpandFault>
         ensures { Expands result (or_itself term.now (with_ordered_terms [] (next_terms self.now Relation.Preferred term.now))) }
     {
-        let next = self.next_terms(alloc, Relation::Preferred, term)?;
         let mut found = Vec::new(alloc);
         let mut newer = Vec::new(alloc);
-        put_terms(&mut found, &mut newer, &next)?;
+        self.put_next_terms(Relation::Preferred, term, &mut found, &mut newer)?;
         if found.is_empty() {
             push_copy(&mut found, term)?;
         }

@@ -1,7 +1,6 @@
 //! The pairs of a thesaurus.
 
-ghost use Rattle.std.specs.Prelude.{◌≡◌, ◌++◌, IfOk, OnOk};
-ghost use Rattle.th_graph.specs.Expansions.{backward, forward, next_of};
+ghost use Rattle.std.specs.Prelude.{◌≡◌, ◌&&◌, IfOk, bytes_eq};
 ghost use Rattle.th_graph.specs.Pairs.{kind_number, term_pair, stated_pair, same_kind, same_term_pair};
 ghost use Rattle.th_graph.specs.Relating.{prefers};
 
@@ -89,50 +88,24 @@ impl TermPair {
         kind.is(self.kind) && first.is(&self.first) && second.is(&self.second)
     }
 
+    /// Whether it is of the kind, and its first term is this one.
+    pub(crate) fn begins(&self, kind: PairKind, term: &Term) -> bool
+        ensures { result ≡ (same_kind kind self.now.kind && bytes_eq term.now self.now.first) }
+    {
+        kind.is(self.kind) && term.is(&self.first)
+    }
+
+    /// Whether it is of the kind, and its second term is this one.
+    pub(crate) fn ends(&self, kind: PairKind, term: &Term) -> bool
+        ensures { result ≡ (same_kind kind self.now.kind && bytes_eq term.now self.now.second) }
+    {
+        kind.is(self.kind) && term.is(&self.second)
+    }
+
     /// Whether it says which term is preferred to this one.
     pub(crate) fn prefers(&self, term: &Term) -> bool
         ensures { result ≡ prefers term.now self.now }
     {
-        PairKind::ToPreferred.is(self.kind) && term.is(&self.first)
-    }
-
-    /// Puts a copy of the second term, where the pair is of the kind and the first term is this one.
-    fn put_forward(&self, kind: PairKind, term: &Term, found: &mut Vec<Term>) -> Result<(), Memory>
-        ensures { OnOk result (found.new.items ≡ found.old.items ++ forward kind term.now self.now) }
-    {
-        if kind.is(self.kind) && term.is(&self.first) {
-            found.push(self.second.clone()?)?;
-        }
-        Ok(())
-    }
-
-    /// Puts a copy of the first term, where the pair is of the kind and the second term is this one.
-    fn put_backward(&self, kind: PairKind, term: &Term, found: &mut Vec<Term>) -> Result<(), Memory>
-        ensures { OnOk result (found.new.items ≡ found.old.items ++ backward kind term.now self.now) }
-    {
-        if kind.is(self.kind) && term.is(&self.second) {
-            found.push(self.first.clone()?)?;
-        }
-        Ok(())
-    }
-
-    /// Puts copies of the terms to which the pair leads from this one.
-    pub(crate) fn put_next(
-        &self,
-        relation: Relation,
-        term: &Term,
-        found: &mut Vec<Term>,
-    ) -> Result<(), Memory>
-        ensures { OnOk result (found.new.items ≡ found.old.items ++ next_of relation term.now self.now) }
-    {
-        match relation {
-            Relation::Syn => {
-                self.put_forward(PairKind::Synonyms, term, found)?;
-                self.put_backward(PairKind::Synonyms, term, found)
-            }
-            Relation::Broader => self.put_forward(PairKind::ToBroader, term, found),
-            Relation::Narrower => self.put_backward(PairKind::ToBroader, term, found),
-            Relation::Preferred => self.put_forward(PairKind::ToPreferred, term, found),
-        }
+        self.begins(PairKind::ToPreferred, term)
     }
 }

@@ -1,8 +1,7 @@
 //! Where the pairs that have a term stand in a thesaurus.
 
-ghost use Rattle.std.specs.Prelude.{◌≡◌, ◌++◌, ◌∷◌, [], ℕ, List, OnOk, OnErr, bytes_eq};
-ghost use Rattle.std.specs.Bool.{if◌then◌else◌};
-ghost use Rattle.th_graph.specs.Places.{noted_places};
+ghost use Rattle.std.specs.Prelude.{◌≡◌, [], ℕ, List, OnOk, OnErr};
+ghost use Rattle.th_graph.specs.Places.{noted_places, with_place};
 
 use crate::terms::Term;
 use ct_base::Memory;
@@ -38,7 +37,7 @@ impl PairPlaces {
     /// Notes a place for a term. Where there is no memory each term has the places that it had. Its cost is the logarithm of the number
     /// of terms.
     pub(crate) fn note(&mut self, alloc: Global, term: &Term, place: usize) -> Result<(), Memory>
-        ensures ok { OnOk result ((q : List ℕ) → noted_places q self.new.places ≡ (if bytes_eq q term.now then noted_places q self.old.places ++ place ∷ [] else noted_places q self.old.places)) }
+        ensures ok { OnOk result ((q : List ℕ) → noted_places q self.new.places ≡ with_place term.now place self.old.places q) }
         ensures err { OnErr result ((q : List ℕ) → noted_places q self.new.places ≡ noted_places q self.old.places) }
     {
         let key = String::from_str(alloc, term.as_str())?;

@@ -1,34 +1,44 @@
 -- One term more among terms that rise, and what tells two such lists apart.
-use Rattle.std.proofs.Common.{◌≡◌, ◌+◌, ◌<◌, ◌≤◌, ℕ, Bool, true, false, cond, List, [], ◌∷◌, ◌++◌, length, refl, sym, ap, subst, ◌∙◌, arith, add-one, ◌⊎◌, inl, inr}
-use Rattle.std.specs.Prelude.{◌||◌}
-use Rattle.std.specs.Bool.{if◌then◌else◌}
-use Rattle.std.specs.List.{insert, list_any}
+use Rattle.std.proofs.Common.{◌≡◌, ◌+◌, ◌<◌, ◌≤◌, ℕ, Bool, true, false, cond, List, [], ◌∷◌, ◌++◌, length, refl, sym, ap, subst, ◌∙◌, arith, ◌⊎◌, inl, inr}
+use Rattle.std.specs.Prelude.{◌&&◌, ◌||◌}
+use Rattle.std.specs.List.{insert}
 use Rattle.std.specs.Str.{bytes_eq}
 use Rattle.std.specs.Ordering.{nat_cmp, is_lt}
 use Rattle.std.specs.Cmp.Lexicographic.{slice_cmp}
-use Rattle.std.proofs.lemmas.Bool.{or_parts, and_parts, and_from, false≢true}
+use Rattle.std.proofs.lemmas.Bool.{and_parts, false≢true}
 use Rattle.std.proofs.lemmas.Cmp.{nat_list_cmp_total}
+use Rattle.std.proofs.lemmas.List.Edits.{length-insert}
 use Rattle.std.proofs.lemmas.Map.Text.{is_eq-slice_cmp}
 use Rattle.std.proofs.lemmas.Slice.Eq.{bytes_eq-Decides}
-use Rattle.ct_base.specs.laws.Bools.{or_swap, same_tests}
-use Rattle.ct_base.specs.laws.Orders.{less_from_test, no_tie, less_back}
+use Rattle.ct_base.specs.laws.Bools.{same_tests}
+use Rattle.ct_base.specs.laws.Orders.{less_from_test, no_tie}
+use Rattle.tx_stop.specs.StopKeys.{is_stop, key_place, keys_rise}
+use Rattle.tx_stop.specs.laws.RisingKeys.{above as key_above, has_put, put, put_is as key_put_is, put_rises, there_already}
 use Rattle.th_graph.specs.Rising.{is_among_terms, is_less, rise, term_place, with_ordered_term, with_ordered_terms}
 
--- the term before the first that isn't less
-abbrev pub put_in_order : List ℕ → List (List ℕ) → List (List ℕ)
-put_in_order t [] = t ∷ []
-put_in_order t (u ∷ us) = if is_less u t then u ∷ put_in_order t us else t ∷ u ∷ us
+-- ---- terms that rise are keys that rise
 
-put_step : (b : Bool) (t u : List ℕ) (us : List (List ℕ)) → insert us (term_place t us) t ≡ put_in_order t us → insert (u ∷ us) (cond b (term_place t us + 1) 0) t ≡ cond b (u ∷ put_in_order t us) (t ∷ u ∷ us)
-put_step true t u us same = ap (λ i. insert (u ∷ us) i t) (add-one (term_place t us)) ∙ ap (λ (l : List (List ℕ)). u ∷ l) same
-put_step false t u us same = refl
+pub other_way : (xs ys : List ℕ) → bytes_eq xs ys ≡ bytes_eq ys xs
+other_way xs ys = same_tests (bytes_eq xs ys) (bytes_eq ys xs) (λ h. (bytes_eq-Decides ys xs).1 (sym ((bytes_eq-Decides xs ys).0 h))) (λ h. (bytes_eq-Decides xs ys).1 (sym ((bytes_eq-Decides ys xs).0 h)))
 
-pub put_is : (t : List ℕ) (us : List (List ℕ)) → insert us (term_place t us) t ≡ put_in_order t us
-put_is t [] = refl
-put_is t (u ∷ us) = put_step (is_less u t) t u us (put_is t us)
+pub rise_as_keys : (ts : List (List ℕ)) → rise ts ≡ keys_rise ts
+rise_as_keys [] = refl
+rise_as_keys (t ∷ []) = refl
+rise_as_keys (t ∷ u ∷ us) = ap (λ (b : Bool). is_less t u && b) (rise_as_keys (u ∷ us))
+
+pub place_as_key : (t : List ℕ) (us : List (List ℕ)) → term_place t us ≡ key_place t us
+place_as_key t [] = refl
+place_as_key t (u ∷ us) = ap (λ n. cond (is_less u t) (n + 1) 0) (place_as_key t us)
+
+pub among_as_keys : (t : List ℕ) (us : List (List ℕ)) → is_among_terms t us ≡ is_stop us t
+among_as_keys t [] = refl
+among_as_keys t (u ∷ us) = ap (λ (b : Bool). b || is_among_terms t us) (other_way t u) ∙ ap (λ (b : Bool). bytes_eq u t || b) (among_as_keys t us)
+
+put_is : (t : List ℕ) (us : List (List ℕ)) → insert us (term_place t us) t ≡ put t us
+put_is t us = ap (λ i. insert us i t) (place_as_key t us) ∙ key_put_is t us
 
 -- what holds of terms, and of them with one more put, holds of them with one more
-with_cases : (P : List (List ℕ) → Type 0) (t : List ℕ) (us : List (List ℕ)) → (is_among_terms t us ≡ true → P us) → (is_among_terms t us ≡ false → P (put_in_order t us)) → P (with_ordered_term t us)
+with_cases : (P : List (List ℕ) → Type 0) (t : List ℕ) (us : List (List ℕ)) → (is_among_terms t us ≡ true → P us) → (is_among_terms t us ≡ false → P (put t us)) → P (with_ordered_term t us)
 with_cases P t us old more = go (is_among_terms t us) refl
   where
     go : (b : Bool) → is_among_terms t us ≡ b → P (cond b us (insert us (term_place t us) t))
@@ -37,23 +47,14 @@ with_cases P t us old more = go (is_among_terms t us) refl
 
 -- ---- which terms there are
 
-any_put : (p : List ℕ → Bool) (t : List ℕ) (us : List (List ℕ)) → list_any p (put_in_order t us) ≡ (p t || list_any p us)
-any_put p t [] = refl
-any_put p t (u ∷ us) = go (is_less u t) (any_put p t us)
-  where
-    go : (b : Bool) → list_any p (put_in_order t us) ≡ (p t || list_any p us) → list_any p (cond b (u ∷ put_in_order t us) (t ∷ u ∷ us)) ≡ (p t || (p u || list_any p us))
-    go true rest = ap (λ (b : Bool). p u || b) rest ∙ or_swap (p u) (p t) (list_any p us)
-    go false rest = refl
-
-there_already : (t q : List ℕ) (us : List (List ℕ)) → is_among_terms t us ≡ true → is_among_terms q us ≡ (bytes_eq q t || is_among_terms q us)
-there_already t q us there = go (bytes_eq q t) refl
-  where
-    go : (b : Bool) → bytes_eq q t ≡ b → is_among_terms q us ≡ (b || is_among_terms q us)
-    go true same = ap (λ (x : List ℕ). is_among_terms x us) ((bytes_eq-Decides q t).0 same) ∙ there
-    go false other = refl
+-- one of the keys, or the one that is put
+one_of : (t q : List ℕ) (us : List (List ℕ)) → (bytes_eq t q || is_stop us q) ≡ (bytes_eq q t || is_among_terms q us)
+one_of t q us = ap (λ (b : Bool). b || is_stop us q) (other_way t q) ∙ ap (λ (b : Bool). bytes_eq q t || b) (sym (among_as_keys q us))
 
 pub among_with : (t q : List ℕ) (us : List (List ℕ)) → is_among_terms q (with_ordered_term t us) ≡ (bytes_eq q t || is_among_terms q us)
-among_with t q us = with_cases (λ vs. is_among_terms q vs ≡ (bytes_eq q t || is_among_terms q us)) t us (there_already t q us) (λ none. any_put (bytes_eq q) t us)
+among_with t q us = with_cases (λ vs. is_among_terms q vs ≡ (bytes_eq q t || is_among_terms q us)) t us
+    (λ there. among_as_keys q us ∙ there_already t q us (sym (among_as_keys t us) ∙ there) ∙ one_of t q us)
+    (λ none. among_as_keys q (put t us) ∙ ap (λ (l : List (List ℕ)). is_stop l q) (sym (key_put_is t us)) ∙ has_put t q us ∙ one_of t q us)
 
 or_behind : (a b c : Bool) → (b || (a || c)) ≡ ((a || b) || c)
 or_behind true true c = refl
@@ -68,34 +69,11 @@ among_with_terms q us (t ∷ ts) = among_with_terms q (with_ordered_term t us) t
 
 -- of two terms that differ one is less
 pub above : (u t : List ℕ) → is_less u t ≡ false → bytes_eq u t ≡ false → is_less t u ≡ true
-above u t less other = less_back (slice_cmp nat_cmp u t) (slice_cmp nat_cmp t u) (nat_list_cmp_total.antisymm t u) less (is_eq-slice_cmp u t ∙ other)
-
-pub other_way : (xs ys : List ℕ) → bytes_eq xs ys ≡ bytes_eq ys xs
-other_way xs ys = same_tests (bytes_eq xs ys) (bytes_eq ys xs) (λ h. (bytes_eq-Decides ys xs).1 (sym ((bytes_eq-Decides xs ys).0 h))) (λ h. (bytes_eq-Decides xs ys).1 (sym ((bytes_eq-Decides ys xs).0 h)))
-
-behind : (b : Bool) (k t l : List ℕ) (ks : List (List ℕ)) → is_less k t ≡ true → is_less k l ≡ true → rise (cond b (l ∷ put_in_order t ks) (t ∷ l ∷ ks)) ≡ true → rise (k ∷ cond b (l ∷ put_in_order t ks) (t ∷ l ∷ ks)) ≡ true
-behind true k t l ks less next h = and_from _ _ next h
-behind false k t l ks less next h = and_from _ _ less h
-
-one_step : (b : Bool) (k t : List ℕ) → is_less k t ≡ b → bytes_eq k t ≡ false → rise (cond b (k ∷ t ∷ []) (t ∷ k ∷ [])) ≡ true
-one_step true k t less other = and_from _ _ less refl
-one_step false k t less other = and_from _ _ (above k t less other) refl
-
-more_step : (b : Bool) (k t l : List ℕ) (ks : List (List ℕ)) → is_less k t ≡ b → bytes_eq k t ≡ false → is_less k l ≡ true → rise (l ∷ ks) ≡ true → rise (put_in_order t (l ∷ ks)) ≡ true
-    → rise (cond b (k ∷ put_in_order t (l ∷ ks)) (t ∷ k ∷ l ∷ ks)) ≡ true
-more_step true k t l ks less other next h later = behind (is_less l t) k t l ks less next later
-more_step false k t l ks less other next h later = and_from _ _ (above k t less other) (and_from _ _ next h)
-
-put_rises : (t : List ℕ) (us : List (List ℕ)) → rise us ≡ true → is_among_terms t us ≡ false → rise (put_in_order t us) ≡ true
-put_rises t [] h none = refl
-put_rises t (k ∷ []) h none = let others = or_parts (bytes_eq t k) false none in one_step (is_less k t) k t refl (other_way k t ∙ others.0)
-put_rises t (k ∷ l ∷ ks) h none =
-    let parts = and_parts (is_less k l) (rise (l ∷ ks)) h in
-    let others = or_parts (bytes_eq t k) (is_among_terms t (l ∷ ks)) none in
-    more_step (is_less k t) k t l ks refl (other_way k t ∙ others.0) parts.0 parts.1 (put_rises t (l ∷ ks) parts.1 others.1)
+above u t less other = key_above u t less other
 
 pub with_rises : (t : List ℕ) (us : List (List ℕ)) → rise us ≡ true → rise (with_ordered_term t us) ≡ true
-with_rises t us h = with_cases (λ vs. rise vs ≡ true) t us (λ there. h) (put_rises t us h)
+with_rises t us h = with_cases (λ vs. rise vs ≡ true) t us (λ there. h)
+    (λ none. rise_as_keys (put t us) ∙ put_rises t us (sym (rise_as_keys us) ∙ h) (sym (among_as_keys t us) ∙ none))
 
 pub with_terms_rise : (us ts : List (List ℕ)) → rise us ≡ true → rise (with_ordered_terms us ts) ≡ true
 with_terms_rise us [] h = h
@@ -103,17 +81,18 @@ with_terms_rise us (t ∷ ts) h = with_terms_rise (with_ordered_term t us) ts (w
 
 -- ---- how many there are
 
-pub put_length : (t : List ℕ) (us : List (List ℕ)) → length (put_in_order t us) ≡ length us + 1
-put_length t [] = refl
-put_length t (u ∷ us) = go (is_less u t) (put_length t us)
+place_within : (t : List ℕ) (us : List (List ℕ)) → term_place t us ≤ length us
+place_within t [] = omega arith
+place_within t (u ∷ us) = go (is_less u t) (place_within t us)
   where
-    go : (b : Bool) → length (put_in_order t us) ≡ length us + 1 → length (cond b (u ∷ put_in_order t us) (t ∷ u ∷ us)) ≡ length (u ∷ us) + 1
+    go : (b : Bool) → term_place t us ≤ length us → cond b (term_place t us + 1) 0 ≤ length (u ∷ us)
     go true h = omega (arith, h)
     go false h = omega arith
 
 -- they are the same, or there is one more
 pub with_grows : (t : List ℕ) (us : List (List ℕ)) → (with_ordered_term t us ≡ us) ⊎ (length (with_ordered_term t us) ≡ length us + 1)
-with_grows t us = with_cases (λ vs. (vs ≡ us) ⊎ (length vs ≡ length us + 1)) t us (λ there. inl refl) (λ none. inr (put_length t us))
+with_grows t us = with_cases (λ vs. (vs ≡ us) ⊎ (length vs ≡ length us + 1)) t us (λ there. inl refl)
+    (λ none. inr (ap length (sym (put_is t us)) ∙ length-insert us (term_place t us) t (place_within t us)))
 
 -- they are the same, or there are more
 pub with_terms_grow : (us ts : List (List ℕ)) → (with_ordered_terms us ts ≡ us) ⊎ (length us < length (with_ordered_terms us ts))

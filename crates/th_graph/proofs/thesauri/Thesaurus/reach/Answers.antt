@@ -1,11 +1,11 @@
 use Rattle.std.proofs.Common.{◌≡◌, ◌-◌, ◌≤◌, ℕ, suc, List, [], ◌∷◌, ◌++◌, length, refl, sym, ap, subst, ◌∙◌, arith}
 use Rattle.std.proofs.lemmas.Bool.{eqb-true}
 use Rattle.std.proofs.lemmas.Result.{err_from_is_err_and}
-use Rattle.th_graph.specs.Answers.{AreWithinLimit}
+use Rattle.th_graph.specs.Answers.{AreWithinLimit, AreNew}
 use Rattle.th_graph.specs.Expansions.{expansion_limit, terms_within}
 use Rattle.th_graph.proofs.Frontiers.{expands_err, frontier_begins, frontier_on, IsFrontier, none_fresh, round_is}
 use Rattle.th_graph.proofs.Lists.{none_left}
-use Rattle.th_graph.proofs.Walks.{within_zero}
+use Rattle.th_graph.proofs.Walks.{nexts, within_zero}
 use Rattle.th_graph.proofs.thesauri.Thesaurus.reach.Goals as goal
 use Rattle.th_graph.proofs.thesauri.Thesaurus.reach.Goals.{then-loop-left-test+else-not-is_empty, else-loop-left-test}
 
@@ -24,12 +24,12 @@ loop-left-init c =
       frontier = frontier_begins ps r a c.push_copy.new.terms.items c.push_copy-2.new.terms.items first second;
     }
 
-pub returns-in_err-fresh : goal.returns-in_err-fresh
-returns-in_err-fresh c =
-    let p = err_from_is_err_and c.from_residual-in_err-fresh.result c.from_residual-in_err-fresh.ensures.1 in
+pub returns-in_err-widen : goal.returns-in_err-widen
+returns-in_err-widen c =
+    let p = err_from_is_err_and c.from_residual-in_err-widen.result c.from_residual-in_err-widen.ensures.1 in
     let frontier = subst (λ (l : List (List ℕ)). IsFrontier c.args.self.now c.args.relation c.loop-left.found.items l) (sym c.deref.ensures.value) c.loop-left.invariant.frontier in
-    rw (p.1, p.2) (expands_err c.args.self.now c.args.relation c.in_err-fresh.field-0.0 c.args.term.now c.loop-left.found.items c.deref.result.now c.loop-left.left c.args.rounds (omega arith) c.loop-left.invariant.bounded
-    c.loop-left.invariant.terms.rises frontier c.loop-left.invariant.found c.in_err-fresh.ensures.found)
+    rw (p.1, p.2) (expands_err c.args.self.now c.args.relation c.in_err-widen.field-0.0 c.args.term.now c.loop-left.found.items c.deref.result.now c.loop-left.left c.args.rounds (omega arith) c.loop-left.invariant.bounded
+    c.loop-left.invariant.terms.rises frontier c.loop-left.invariant.found c.in_err-widen.ensures)
 
 pub loop-left-preserved : goal.loop-left-preserved
 loop-left-preserved c =
@@ -37,17 +37,19 @@ loop-left-preserved c =
     let r = c.args.relation in
     let a = c.args.term.now in
     let found = c.loop-left.found.items in
+    let fresh = c.deref.result.now in
     let old = c.loop-left.invariant in
     let frontier = subst (λ (l : List (List ℕ)). IsFrontier ps r found l) (sym c.deref.ensures.value) old.frontier in
-    let puts = c.in_ok-fresh.ensures.found in
+    let now = c.in_ok-widen.ensures in
+    let new = subst (λ (l : List (List ℕ)). AreNew l c.widen.new.newer.items found (nexts ps r fresh)) c.new-newer.ensures.items now.new in
     let some : 1 ≤ c.loop-left.left = omega arith in
     let within_bound = old.bounded in
     let next : suc (c.args.rounds - c.loop-left.left) ≡ c.args.rounds - (c.loop-left.left - 1) = omega (arith, some, within_bound) in
     record {
       bounded = omega (arith, within_bound);
-      found = puts.0 ∙ round_is ps r a found c.deref.result.now (c.args.rounds - c.loop-left.left) old.terms.rises frontier old.found ∙ ap (λ (k : ℕ). terms_within ps r k a) next;
-      terms = puts.1;
-      frontier = frontier_on ps r found c.widen.new.found.items c.deref.result.now c.in_ok-fresh.fresh.items old.terms.rises frontier puts.0 c.in_ok-fresh.ensures.newer;
+      found = now.among ∙ round_is ps r a found fresh (c.args.rounds - c.loop-left.left) old.terms.rises frontier old.found ∙ ap (λ (k : ℕ). terms_within ps r k a) next;
+      terms = now.limit;
+      frontier = frontier_on ps r found c.widen.new.found.items fresh c.widen.new.newer.items old.terms.rises frontier now.among new;
     }
 
 pub returns : goal.returns

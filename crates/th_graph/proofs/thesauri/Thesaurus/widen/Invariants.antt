@@ -1,17 +1,11 @@
-use Rattle.std.proofs.Common.{◌≡◌, ℕ, List, length}
+use Rattle.std.proofs.Common.{length}
 use Rattle.std.specs.List.{flat_map}
-use Rattle.std.specs.Prelude.{◌&&◌, ◌||◌, not}
-use Rattle.th_graph.specs.Answers.{AreWithinLimit}
 use Rattle.th_graph.specs.Expansions.{next_terms}
-use Rattle.th_graph.specs.Rising.{is_among_terms, with_ordered_terms}
+use Rattle.th_graph.proofs.Gathering.{AreGathering}
 use Rattle.th_graph.proofs.thesauri.Thesaurus.widen.Given as goal
 
 abbrev pub invariant-loop-rest : goal.invariant-loop-rest
-invariant-loop-rest l = record {
-  so_far : with_ordered_terms l.found.items (flat_map (next_terms l.self l.relation) l.rest) ≡ with_ordered_terms l.fn.found.items (flat_map (next_terms l.self l.relation) l.fresh);
-  terms : AreWithinLimit l.found.items;
-  new : (q : List ℕ) → (is_among_terms q l.newer.items || (is_among_terms q (flat_map (next_terms l.self l.relation) l.rest) && not (is_among_terms q l.found.items))) ≡ (is_among_terms q (flat_map (next_terms l.self l.relation) l.fresh) && not (is_among_terms q l.fn.found.items));
-}
+invariant-loop-rest l = AreGathering l.found.items l.newer.items (flat_map (next_terms l.self l.relation) l.rest) l.fn.found.items l.fn.newer.items (flat_map (next_terms l.self l.relation) l.fresh)
 
 abbrev pub decreases-loop-rest : goal.decreases-loop-rest
 decreases-loop-rest l = length l.rest
