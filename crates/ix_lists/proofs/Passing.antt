@@ -77,6 +77,9 @@ module _ {P : Type 0} (form : PlaceForm P) where
   pub left_rises : (to : ℕ) (new old : List (RowDocument P)) → new ≡ from_on to old → DocumentsRise form 0 old → DocumentsRise form 0 new
   left_rises to new old is rise = subst (DocumentsRise form 0) (sym is) (from_on_rise to 0 old rise)
 
+  pub rises_beyond : (to n t : ℕ) (ls xs : List (RowDocument P)) (rs qs : List (List (RowDocument P))) → rs ≡ qs → from_on to xs ≡ [] → ls ++ posting_list (drop n rs) ≡ from_on to (posting_list (drop t rs)) → DocumentsRise form 0 (xs ++ posting_list (drop t qs)) → DocumentsRise form 0 (ls ++ posting_list (drop n qs))
+  rises_beyond to n t ls xs rs qs is none left rise = left_rises to (ls ++ posting_list (drop n qs)) (xs ++ posting_list (drop t qs)) (left_beyond to n t ls xs rs qs is none left) rise
+
   -- ---- the places in one document
 
   -- among rising documents only the first that isn't before it may be the one

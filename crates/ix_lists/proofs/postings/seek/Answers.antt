@@ -14,10 +14,9 @@ returns-in-Some-clause-left g c =
 
 pub returns-in-Some-clause-first : goal.returns-in-Some-clause-first
 returns-in-Some-clause-first g c d =
-    let i = c.loop-i.i in
     let row = c.in_ok-decode.field-0 in
-    let rest = posting_list (drop (i + 1) c.args.rows.now) in
-    let at : posting_list (drop i c.args.rows.now) ≡ row ++ rest = next_row c.args.rows.now i row c.index-rows-i.result c.loop-i-test.true c.in_ok-decode.ensures c.index-rows-i.is in
+    let rest = posting_list (drop (c.loop-i.i + 1) c.args.rows.now) in
+    let at = next_row c.args.rows.now c.loop-i.i row c.index-rows-i.result c.loop-i-test.true c.in_ok-decode.ensures c.index-rows-i.is in
     first_more (drop c.in-Some.next row) rest d c.in-Some.ensures.some.1
     ∙ ap (λ ds. first_places ds d) (sym (within c.args.to (drop c.in-Some.next row) row rest c.in-Some.ensures.some.0 c.in-Some.ensures.some.1) ∙ ap (from_on c.args.to) (sym at) ∙ c.loop-i.invariant)
 
@@ -26,8 +25,6 @@ returns-in-Some-clause-shown g c = first_of_all (drop c.in-Some.next c.in_ok-dec
 
 pub loop-i-preserved : goal.loop-i-preserved
 loop-i-preserved g c =
-    let i = c.loop-i.i in
     let row = c.in_ok-decode.field-0 in
-    let rest = posting_list (drop (i + 1) c.args.rows.now) in
-    let at : posting_list (drop i c.args.rows.now) ≡ row ++ rest = next_row c.args.rows.now i row c.index-rows-i.result c.loop-i-test.true c.in_ok-decode.ensures c.index-rows-i.is in
-    sym (past c.args.to row rest c.in-None.ensures.none) ∙ ap (from_on c.args.to) (sym at) ∙ c.loop-i.invariant
+    let at = next_row c.args.rows.now c.loop-i.i row c.index-rows-i.result c.loop-i-test.true c.in_ok-decode.ensures c.index-rows-i.is in
+    sym (past c.args.to row (posting_list (drop (c.loop-i.i + 1) c.args.rows.now)) c.in-None.ensures.none) ∙ ap (from_on c.args.to) (sym at) ∙ c.loop-i.invariant

@@ -1,7 +1,7 @@
 use Rattle.std.proofs.Common.{◌≡◌, ◌++◌, ◌∙◌, ◌≤◌, drop, length, sym, ap, subst}
 use Rattle.ix_posting.specs.Lists.{posting_list}
 use Rattle.ix_lists.specs.Documents.{row_from, from_on, first_document}
-use Rattle.ix_lists.proofs.Passing.{within, left_beyond, left_rises, first_of_all}
+use Rattle.ix_lists.proofs.Passing.{within, left_beyond, left_rises, rises_beyond, first_of_all}
 use Rattle.ix_lists.proofs.postings.Postings.skip.Goals as goal
 
 pub invariant_of-self : goal.invariant_of-self
@@ -29,11 +29,8 @@ invariant_of-self-in-None g c =
     let p = c.self.inside.place in
     let rows = c.self.inside.rows in
     let q = c.in_ok-place-in-None.place in
-    let old = row_from p.row p.next in
-    let new = row_from q.row q.next in
-    let left : new ++ posting_list (drop q.taken rows) ≡ from_on c.args.to (old ++ posting_list (drop p.taken rows)) = left_beyond c.args.to q.taken p.taken new old c.as_slice.result.now rows c.as_slice.ensures c.in-None.ensures.none c.in_ok-place-in-None.ensures.left in
     let few : q.taken ≤ length rows = subst (λ rs. q.taken ≤ length rs) c.as_slice.ensures c.in_ok-place-in-None.ensures.taken in
-    rw c.go_to.ensures (few, left_rises g.P.Place.form c.args.to (new ++ posting_list (drop q.taken rows)) (old ++ posting_list (drop p.taken rows)) left c.self.invariant.1)
+    rw c.go_to.ensures (few, rises_beyond g.P.Place.form c.args.to q.taken p.taken (row_from q.row q.next) (row_from p.row p.next) c.as_slice.result.now rows c.as_slice.ensures c.in-None.ensures.none c.in_ok-place-in-None.ensures.left c.self.invariant.1)
 
 pub returns-in_ok-place-in-None-clause-left : goal.returns-in_ok-place-in-None-clause-left
 returns-in_ok-place-in-None-clause-left g c =
@@ -58,9 +55,5 @@ returns-in-Some-clause-rise g c =
 pub returns-in_ok-place-in-None-clause-rise : goal.returns-in_ok-place-in-None-clause-rise
 returns-in_ok-place-in-None-clause-rise g c =
     let p = c.self.inside.place in
-    let rows = c.self.inside.rows in
     let q = c.in_ok-place-in-None.place in
-    let old = row_from p.row p.next in
-    let new = row_from q.row q.next in
-    let left : new ++ posting_list (drop q.taken rows) ≡ from_on c.args.to (old ++ posting_list (drop p.taken rows)) = left_beyond c.args.to q.taken p.taken new old c.as_slice.result.now rows c.as_slice.ensures c.in-None.ensures.none c.in_ok-place-in-None.ensures.left in
-    rw c.go_to.ensures (left_rises g.P.Place.form c.args.to (new ++ posting_list (drop q.taken rows)) (old ++ posting_list (drop p.taken rows)) left c.self.invariant.1)
+    rw c.go_to.ensures (rises_beyond g.P.Place.form c.args.to q.taken p.taken (row_from q.row q.next) (row_from p.row p.next) c.as_slice.result.now c.self.inside.rows c.as_slice.ensures c.in-None.ensures.none c.in_ok-place-in-None.ensures.left c.self.invariant.1)
