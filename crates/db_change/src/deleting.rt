@@ -16,7 +16,7 @@ use ct_base::{COLUMN_LIMIT, Memory, Name, RowKey};
 use ct_keep::{Batch, KeepFault, Keeper};
 use db_cond::{Fault, rows_line};
 use db_names::{IndexHead, indexes_of};
-use db_rows::{conds_fault, rows_meeting};
+use db_rows::{conds_fault, keys_meeting};
 use db_state::{Plan, carry_out, table_columns};
 use ix_indexes::{RowEvent, row_notes};
 use st_parse::Cond;
@@ -99,7 +99,7 @@ fn delete_plan<'a, K: Keeper>(
     if let Some(fault) = delete_fault(conds, &columns) {
         return Ok((Plan::Refused(fault), 0));
     }
-    let rows = rows_meeting(alloc, keeper, table, &columns, conds)?;
+    let rows = keys_meeting(alloc, keeper, table, &columns, conds)?;
     let indexes = indexes_of(alloc, keeper, table)?;
     let batch = rows_changes(alloc, keeper, table, &columns, &indexes, &rows)?;
     Ok((Plan::Done(batch), rows.len()))
@@ -108,7 +108,7 @@ fn delete_plan<'a, K: Keeper>(
 /// DELETE: takes the rows that meet all conditions out of their table and out of the indexes on it, by at most one commit. There is
 /// always room for it, so Memory and Disk are the only errors.
 ///
-/// Its cost is that of `rows_meeting` for the conditions, of the entries of all indexes, and of the document of each row in each index
+/// Its cost is that of `keys_meeting` for the conditions, of the entries of all indexes, and of the document of each row in each index
 /// on the table. So a DELETE of one row by its key costs the same in a table of any size. Its changes take memory: for each row one and one more
 /// for each column with texts, and at most two for each index.
 pub fn delete_from<K: Keeper>(

@@ -24,7 +24,7 @@ use ct_base::{Memory, Name, RowKey, Text};
 use ct_keep::{Batch, KeepFault, Keeper};
 use db_cond::{Fault, rows_line};
 use db_names::{IndexHead, indexes_of};
-use db_rows::{row_numbers, rows_meeting};
+use db_rows::{row_numbers, keys_meeting};
 use db_state::{Plan, carry_out, column_place, table_columns};
 use ix_indexes::{RowEvent, row_notes};
 use st_parse::{Assign, Cond, Operand};
@@ -319,12 +319,12 @@ fn update_plan<'a, K: Keeper>(
         return Ok((Plan::Refused(fault), 0));
     }
     keep_assigns(assigns);
-    let rows = rows_meeting(alloc, keeper, table, &columns, conds)?;
+    let rows = keys_meeting(alloc, keeper, table, &columns, conds)?;
     let batch = update_batch(alloc, keeper, table, &columns, assigns, &rows)?;
     Ok((Plan::Done(batch), rows.len()))
 }
 
-/// UPDATE, by at most one commit. Its cost is that of `rows_meeting` for the conditions, of the entries of all indexes, and, for each
+/// UPDATE, by at most one commit. Its cost is that of `keys_meeting` for the conditions, of the entries of all indexes, and, for each
 /// row, of its numbers and its document in each index on a column that is set. So an UPDATE of one row by its key costs as much in any
 /// table.
 pub fn update<K: Keeper>(

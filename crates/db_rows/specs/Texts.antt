@@ -7,8 +7,7 @@ use Rattle.ct_keep.specs.KeeperViews.{Counts, KeeperView}
 use Rattle.ct_keep.specs.Looks.{no_looks}
 use Rattle.ct_keep.specs.declared.keepers.KeepFault.{KeepFault}
 use Rattle.ct_entry.specs.Keys.{same_list}
-use Rattle.tb_table.specs.declared.columns.Sort.{Sort}
-use Rattle.tb_table.specs.declared.columns.Sort.TheVariants.{Number as NumberSort, Varchar2, Clob}
+use Rattle.ix_kinds.specs.Targets.{is_text_sort}
 use Rattle.tb_table.specs.declared.columns.Column.{Column}
 use Rattle.st_parse.specs.declared.statements.Cond.{Cond}
 use Rattle.db_rows.specs.Checking.{cond_column}
@@ -21,11 +20,6 @@ use Rattle.db_rows.specs.declared.sources.Source.TheVariants.{Key, Number, Text,
 
 -- ---- the columns
 
-abbrev pub holds_texts : Sort → Bool
-holds_texts NumberSort = false
-holds_texts (Varchar2 size) = true
-holds_texts Clob = true
-
 -- the places of the columns that pass a test, where the first has this place
 abbrev pub places_from : ℕ → (Column → Bool) → List Column → List ℕ
 places_from place test [] = []
@@ -33,7 +27,7 @@ places_from place test (c ∷ cs) = if test c then place ∷ places_from (suc pl
 
 -- THE COLUMNS OF TEXTS THAT PASS A TEST, each once, by their places in the table
 abbrev pub passing_text_places : (Column → Bool) → List Column → List ℕ
-passing_text_places test columns = places_from 0 (λ c. holds_texts c.sort && test c) columns
+passing_text_places test columns = places_from 0 (λ c. is_text_sort c.sort && test c) columns
 
 -- one of the names is that of the column
 abbrev pub is_named : List (List ℕ) → Column → Bool

@@ -101,7 +101,7 @@ fn note_row<K: Keeper>(
 /// The conditions on the key bound the keys from below and from above. Its cost is that of a walk over the rows between the bounds,
 /// of the row behind them unless one stands at the upper bound, and of what the conditions are on in each of these rows. So a row by
 /// its key costs the same in a table of any size. It never answers Full.
-pub fn reads_meeting<K: Keeper>(
+pub fn rows_meeting<K: Keeper>(
     alloc: Global,
     keeper: &mut K,
     table: &Name,
@@ -141,8 +141,8 @@ fn keys_of(alloc: Global, rows: &[MetRow]) -> Result<Vec<RowKey>, Memory>
 
 /// The keys of the rows of a table that meet all conditions, in order.
 ///
-/// It costs what `reads_meeting` does.
-pub fn rows_meeting<K: Keeper>(
+/// It costs what `rows_meeting` does.
+pub fn keys_meeting<K: Keeper>(
     alloc: Global,
     keeper: &mut K,
     table: &Name,
@@ -153,7 +153,7 @@ pub fn rows_meeting<K: Keeper>(
     ensures keys { OverColumns K.view keeper.old table.now columns.now (λ x. IfOk result (λ rows. map (λ row. row.0) rows.items ≡ meeting_keys x conds.now)) }
     ensures reads { OnlyReads K.view keeper.old keeper.new result }
 {
-    let rows = reads_meeting(alloc, keeper, table, columns, conds, &Shown::Keys)?;
+    let rows = rows_meeting(alloc, keeper, table, columns, conds, &Shown::Keys)?;
     let keys = keys_of(alloc, &rows)?;
     Ok(keys)
 }

@@ -11,7 +11,8 @@ use Rattle.st_parse.specs.declared.statements.Item.TheVariants.{Column as Column
 use Rattle.st_parse.specs.declared.statements.SelectList.{SelectList}
 use Rattle.st_parse.specs.declared.statements.SelectList.TheVariants.{Star, CountAll, Items}
 use Rattle.tb_table.specs.declared.columns.Column.{Column}
-use Rattle.db_rows.specs.Texts.{HasFewerLeft, conds_among, holds_texts, places_from, passing_text_places}
+use Rattle.ix_kinds.specs.Targets.{is_text_sort}
+use Rattle.db_rows.specs.Texts.{HasFewerLeft, conds_among, places_from, passing_text_places}
 use Rattle.db_rows.specs.laws.Texts.{conds_named, either_first, either_second, fewer_places, named_among, same_list_back}
 use Rattle.db_select.specs.Fields.{fields_among}
 use Rattle.db_select.specs.Looking.{is_column_item, read_texts, reads, shown_texts, shows}
@@ -41,10 +42,10 @@ pub items_shown : (list : SelectList) (columns : List Column) (items : List Item
 items_shown list columns items listed = among_items (shows list) columns items (λ c is. ap (λ (l : SelectList). shows l c) listed ∙ is)
 
 -- COUNT(*) shows none
-none_from : (list : SelectList) → list ≡ CountAll → (place : ℕ) (cs : List Column) → places_from place (λ c. holds_texts c.sort && shows list c) cs ≡ []
+none_from : (list : SelectList) → list ≡ CountAll → (place : ℕ) (cs : List Column) → places_from place (λ c. is_text_sort c.sort && shows list c) cs ≡ []
 none_from list counts place [] = refl
 none_from list counts place (c ∷ cs) =
-    ap (λ (b : Bool). cond b (place ∷ places_from (suc place) (λ c. holds_texts c.sort && shows list c) cs) (places_from (suc place) (λ c. holds_texts c.sort && shows list c) cs)) (none (holds_texts c.sort) (shows list c) (ap (λ (l : SelectList). shows l c) counts)) ∙ none_from list counts (suc place) cs
+    ap (λ (b : Bool). cond b (place ∷ places_from (suc place) (λ c. is_text_sort c.sort && shows list c) cs) (places_from (suc place) (λ c. is_text_sort c.sort && shows list c) cs)) (none (is_text_sort c.sort) (shows list c) (ap (λ (l : SelectList). shows l c) counts)) ∙ none_from list counts (suc place) cs
   where
     none : (a b : Bool) → b ≡ false → (a && b) ≡ false
     none true b is = is

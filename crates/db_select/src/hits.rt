@@ -14,7 +14,7 @@ ghost use Rattle.db_select.specs.Hits.{HoldOwn, PutsIfMet, TriesHit, TriesHits, 
 use crate::finds::FoundRow;
 use ct_base::{Memory, Name};
 use ct_keep::{KeepFault, Keeper};
-use db_rows::{MetRow, RowRead, Shown, read_if_met, reads_meeting};
+use db_rows::{MetRow, RowRead, Shown, read_if_met, rows_meeting};
 use ix_search::Hit;
 use st_parse::Cond;
 use std::alloc::Global;
@@ -117,7 +117,7 @@ pub(crate) fn unsearched_hits<K: Keeper>(
     ensures own { Sees K.view keeper.old result (λ m rows. HoldOwn m.tables table.now rows.items) }
     ensures reads { OnlyReads K.view keeper.old keeper.new result }
 {
-    let rows = reads_meeting(alloc, keeper, table, columns, conds, shown)?;
+    let rows = rows_meeting(alloc, keeper, table, columns, conds, shown)?;
     let found = unscored_rows(alloc, rows)?;
     Ok(found)
 }

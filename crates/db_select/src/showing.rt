@@ -3,7 +3,8 @@
 
 ghost use Rattle.std.specs.Prelude.{◌≡◌, ◌<◌, ◌≤◌, ◌&&◌, [], ◌∷◌, ◌++◌, length, IfOk, OnOk};
 ghost use Rattle.std.specs.List.{list_any};
-ghost use Rattle.db_rows.specs.Texts.{holds_texts, shown_places};
+ghost use Rattle.ix_kinds.specs.Targets.{is_text_sort};
+ghost use Rattle.db_rows.specs.Texts.{shown_places};
 ghost use Rattle.db_select.specs.Looking.{is_column_item, shown_texts, shows as list_shows};
 
 use ct_base::Memory;
@@ -14,7 +15,7 @@ use tb_table::{Column, Sort};
 
 /// Whether the values of such a column are texts.
 fn is_of_texts(sort: Sort) -> bool
-    ensures { result ≡ holds_texts sort }
+    ensures { result ≡ is_text_sort sort }
 {
     match sort {
         Sort::Number => false,
@@ -52,7 +53,7 @@ fn shows(list: &SelectList, column: &Column) -> bool
 
 /// Whether the list shows the texts of the column.
 fn shows_texts(list: &SelectList, column: &Column) -> bool
-    ensures { result ≡ (holds_texts column.now.sort && list_shows list.now column.now) }
+    ensures { result ≡ (is_text_sort column.now.sort && list_shows list.now column.now) }
 {
     is_of_texts(column.sort) && shows(list, column)
 }

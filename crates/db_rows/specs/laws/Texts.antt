@@ -15,7 +15,8 @@ use Rattle.tb_table.specs.declared.columns.Sort.TheVariants.{Number as NumberSor
 use Rattle.tb_table.specs.declared.columns.Column.{Column}
 use Rattle.db_rows.specs.Checking.{cond_column, cond_columns}
 use Rattle.db_rows.specs.Sources.{number_source, source_by, source_from, source_of, text_source, with_sort}
-use Rattle.db_rows.specs.Texts.{HasFewerLeft, RisesLeaving, conds_among, is_named, holds_texts, is_unread, places_from, reads_among, passing_text_places, texts_alone, texts_left}
+use Rattle.ix_kinds.specs.Targets.{is_text_sort}
+use Rattle.db_rows.specs.Texts.{HasFewerLeft, RisesLeaving, conds_among, is_named, is_unread, places_from, reads_among, passing_text_places, texts_alone, texts_left}
 use Rattle.db_rows.specs.declared.reading.RowRead.{RowRead}
 use Rattle.db_rows.specs.declared.sources.Source.{Source}
 use Rattle.db_rows.specs.declared.sources.Source.TheVariants.{Key, Number, Text, Nothing}
@@ -109,7 +110,7 @@ fewer_from test p q weaker place (c ∷ cs) =
 -- where one test follows from another, no more texts are left of the columns that pass it
 pub fewer_places : (p q : Column → Bool) → ((c : Column) → p c ≡ true → q c ≡ true) → (columns : List Column) → HasFewerLeft (passing_text_places p columns) (passing_text_places q columns)
 fewer_places p q weaker columns read =
-    fewer_from (is_unread read.texts.items) (λ c. holds_texts c.sort && p c) (λ c. holds_texts c.sort && q c) (λ c. and_weaker (holds_texts c.sort) (p c) (q c) (weaker c)) 0 columns
+    fewer_from (is_unread read.texts.items) (λ c. is_text_sort c.sort && p c) (λ c. is_text_sort c.sort && q c) (λ c. and_weaker (is_text_sort c.sort) (p c) (q c) (weaker c)) 0 columns
 
 -- ---- where columns are asked for by their names
 
@@ -150,21 +151,21 @@ text_among place true places is = go (nat_lt place 256)
     go false = refl
 text_among place false places is = absurd (cc)
 
-here_among : (place before : ℕ) (s : Sort) (b : Bool) (places : List ℕ) → b ≡ true → reads_among (cond (holds_texts s && b) (place ∷ places) places) (source_by s place before) ≡ true
+here_among : (place before : ℕ) (s : Sort) (b : Bool) (places : List ℕ) → b ≡ true → reads_among (cond (is_text_sort s && b) (place ∷ places) places) (source_by s place before) ≡ true
 here_among place before NumberSort b places is = numbers_among places before
 here_among place before (Varchar2 size) b places is = text_among place b places is
 here_among place before Clob b places is = text_among place b places is
 
 module _ (test : Column → Bool) (name : List ℕ) (named : HasNamed test name) where
-  from_among : (place before : ℕ) (cs : List Column) → reads_among (places_from place (λ c. holds_texts c.sort && test c) cs) (source_from place before name cs) ≡ true
+  from_among : (place before : ℕ) (cs : List Column) → reads_among (places_from place (λ c. is_text_sort c.sort && test c) cs) (source_from place before name cs) ≡ true
   from_among place before [] = refl
   from_among place before (c ∷ cs) = go (same_list name c.name) refl (from_among (suc place) (with_sort c.sort before) cs)
     where
-      go : (b : Bool) → same_list name c.name ≡ b → reads_among (places_from (suc place) (λ c. holds_texts c.sort && test c) cs) (source_from (suc place) (with_sort c.sort before) name cs) ≡ true
-          → reads_among (places_from place (λ c. holds_texts c.sort && test c) (c ∷ cs)) (cond b (source_by c.sort place before) (source_from (suc place) (with_sort c.sort before) name cs)) ≡ true
-      go true same rest = here_among place before c.sort (test c) (places_from (suc place) (λ c. holds_texts c.sort && test c) cs) (named c same)
+      go : (b : Bool) → same_list name c.name ≡ b → reads_among (places_from (suc place) (λ c. is_text_sort c.sort && test c) cs) (source_from (suc place) (with_sort c.sort before) name cs) ≡ true
+          → reads_among (places_from place (λ c. is_text_sort c.sort && test c) (c ∷ cs)) (cond b (source_by c.sort place before) (source_from (suc place) (with_sort c.sort before) name cs)) ≡ true
+      go true same rest = here_among place before c.sort (test c) (places_from (suc place) (λ c. is_text_sort c.sort && test c) cs) (named c same)
       go false other rest =
-          among_later place (places_from (suc place) (λ c. holds_texts c.sort && test c) cs) (holds_texts c.sort && test c) (source_from (suc place) (with_sort c.sort before) name cs) rest
+          among_later place (places_from (suc place) (λ c. is_text_sort c.sort && test c) cs) (is_text_sort c.sort && test c) (source_from (suc place) (with_sort c.sort before) name cs) rest
 
 -- WHAT A NAME ASKS FOR is a text of one of the columns that pass the test, or no text.
 pub named_among : (test : Column → Bool) (columns : List Column) (name : List ℕ) → HasNamed test name → reads_among (passing_text_places test columns) (source_of name columns) ≡ true

@@ -9,7 +9,7 @@ use Rattle.db_state.specs.States.{StoreState, StandsForState}
 use Rattle.db_rows.specs.Walking.{AreOwn, met_keys}
 use Rattle.db_rows.proofs.Walks.{IsWalked}
 use Rattle.db_rows.proofs.TableWalks.{entry_meets}
-use Rattle.db_rows.proofs.walking.reads_meeting.Given as goal
+use Rattle.db_rows.proofs.walking.rows_meeting.Given as goal
 
 abbrev pub invariant-steps : goal.invariant-steps
 invariant-steps g l = record {
