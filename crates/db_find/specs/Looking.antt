@@ -2,6 +2,7 @@
 use Rattle.std.specs.Prelude.{ℕ, pos, ◌≡◌, List, Option, Some, None, codes, refl}
 use Rattle.std.specs.Option.{option_map}
 use Rattle.std.specs.FinMap.{get}
+use Rattle.std.proofs.Common.{◌∙◌}
 use Rattle.std.specs.Str.{chars}
 use lib.Utf8.{encode}
 use Rattle.caseless.proofs.Computing.{caseless}
@@ -15,7 +16,7 @@ use Rattle.q_tree.specs.ReducedQueries.{reduced_of}
 use Rattle.th_store.specs.Thesauri.{Thesauri}
 use Rattle.ix_indexes.specs.Indexes.{Index}
 use Rattle.ix_search.specs.Finding.{key_query, three_rows}
-use Rattle.ix_search.specs.Looking.{query_allowance, query_looks}
+use Rattle.ix_search.specs.Looking.{foxes, query_allowance, query_looks, query_of_fox}
 use Rattle.st_parse.specs.declared.statements.Whole.{Whole}
 use Rattle.st_parse.specs.declared.statements.Whole.TheVariants.{Fits}
 use Rattle.db_state.specs.States.{StoreState, StandsForState}
@@ -69,7 +70,10 @@ allowance_in c thesauri (Some named) s = search_allowance c thesauri named.0 nam
 of_no_query : (c : Content) → meaning_looks c (codes "di") (Finds None) (Some 0) ≡ no_looks
 of_no_query c = refl
 
--- the query text `fox` means the key `fox`
+-- the query text `fox` means the key `fox`, which has three rows in the second content
 rows_of_a_word : (c : Content) (thesauri : Thesauri) → search_allowance c thesauri (codes "di") three_rows (Contains (codes "body") (codes "fox") None (Fits (pos 0))) ≡ query_allowance c (codes "di") (key_query (codes "fox"))
 unfolding encode chars caseless ucd_category key_text
 rows_of_a_word c thesauri = refl
+
+pub four_rows_of_fox : (thesauri : Thesauri) → search_allowance foxes thesauri (codes "di") three_rows (Contains (codes "body") (codes "fox") None (Fits (pos 0))) ≡ 4
+four_rows_of_fox thesauri = rows_of_a_word foxes thesauri ∙ query_of_fox

@@ -2,6 +2,7 @@
 use Rattle.std.specs.Prelude.{ℕ, pos, ◌+◌, ◌*◌, ◌≡◌, ◌||◌, Bool, true, false, List, [], ◌∷◌, length, Option, Some, None, Result, codes, refl}
 use Rattle.std.specs.List.{list_any}
 use Rattle.std.specs.FinMap.{get}
+use Rattle.std.proofs.Common.{ap, ◌∙◌}
 use Rattle.ct_keep.specs.Content.{Content}
 use Rattle.ct_keep.specs.KeeperViews.{Counts, KeeperView}
 use Rattle.ct_keep.specs.Looks.{no_looks, plus, scan_looks, RisesBy}
@@ -28,7 +29,10 @@ use Rattle.db_state.specs.Effects.{Effect, Does, Refused}
 use Rattle.db_rows.specs.Checking.{cond_columns}
 use Rattle.db_rows.specs.Sources.{of_columns}
 use Rattle.db_rows.specs.Texts.{RisesLeaving, is_named, left_by, passing_text_places}
-use Rattle.db_find.specs.Looking.{allowance_in, looks_in}
+use Rattle.ix_indexes.specs.Indexes.{Index}
+use Rattle.ix_search.specs.Finding.{three_rows}
+use Rattle.ix_search.specs.Looking.{foxes}
+use Rattle.db_find.specs.Looking.{allowance_in, four_rows_of_fox, looks_in}
 use Rattle.db_find.specs.Searches.{Search, Contains, search_in}
 use Rattle.db_find.specs.Seeking.{named_index}
 use Rattle.db_select.specs.Hits.{found_rows}
@@ -173,3 +177,8 @@ a_fox = Contains (codes "body") (codes "fox") None (Fits (pos 0))
 two_texts : (c : Content) (m : StoreState) (x : Table) → x.columns ≡ docs_columns → found_rows m (codes "docs") x (Some a_fox) ≡ (pos 1, 2) ∷ (pos 7, 1) ∷ []
     → (found_allowance c m (codes "docs") x Star a_fox []).texts ≡ Some 2
 two_texts c m x columns found = λ i. Some (length (found i) * length (read_texts Star [] (columns i)))
+
+-- the index `di`, in a content that has three rows of `fox`: one row more for each of the two searches
+five_rows : (m : StoreState) (x : Table) → named_index m (codes "docs") x.columns a_fox ≡ Some (codes "di", three_rows)
+    → (found_allowance foxes m (codes "docs") x Star a_fox []).rows ≡ Some 5
+five_rows m x index = ap (λ (o : Option (List ℕ × Index)). Some (1 + allowance_in foxes m.thesauri o a_fox)) index ∙ ap (λ (n : ℕ). Some (1 + n)) (four_rows_of_fox m.thesauri)

@@ -260,7 +260,7 @@ fn part(alloc: Global, parts: &mut Vec<Flat>, letter: u8) -> Result<Flat, Fail> 
 /// ten times the number of its occurrences. Behind two parts stand
 /// `&`, `|`, `!` for NOT and `-`; behind one part `*` for a weight of 1.5, `>` for above 1, `S` for within a sentence, `Z` for
 /// within the zone `t`, and `F` for within the first field.
-fn query(alloc: Global, text: &[u8]) -> Result<Flat, Fail> {
+pub(crate) fn query(alloc: Global, text: &[u8]) -> Result<Flat, Fail> {
     let mut parts = Vec::new(alloc);
     for letter in text {
         let part = part(alloc, &mut parts, *letter)?;
@@ -326,13 +326,13 @@ fn possible(alloc: Global, text: &[u8]) -> Result<Vec<u32>, Fail> {
 /// The greatest number of a document.
 const LAST: u32 = 4_294_967_295;
 
-struct Case {
-    query: &'static str,
-    scored: &'static [(u32, u32)],
+pub(crate) struct Case {
+    pub(crate) query: &'static str,
+    pub(crate) scored: &'static [(u32, u32)],
     possible: &'static [u32],
 }
 
-const CASES: &[Case] = &[
+pub(crate) const CASES: &[Case] = &[
     Case {
         query: "a",
         scored: &[(1, 2), (2, 1), (4, 1), (LAST, 1)],

@@ -6,7 +6,7 @@ use std::alloc::Global;
 use std::test::Fail;
 
 /// Each document of a row with its positions, and the row's bytes.
-static ROWS: [(&[(u32, &[u32])], &[u8]); 5] = [
+pub(crate) static ROWS: [(&[(u32, &[u32])], &[u8]); 5] = [
     (&[(1, &[1, 3])], &[1, 1, 2, 1, 2]),
     (&[(300, &[1, 200])], &[1, 0xac, 2, 2, 1, 0xc7, 1]),
     (&[(1, &[1]), (2, &[1])], &[2, 1, 1, 1, 1, 1, 1]),

@@ -1,5 +1,6 @@
 -- How much the reading of a query's rows looks at.
 use Rattle.std.specs.Prelude.{ℕ, ◌≡◌, ◌+◌, sum_by, List, [], ◌∷◌, ◌++◌, length, codes, refl}
+use Rattle.std.proofs.Common.{ap}
 use Rattle.ct_keep.specs.Content.{Content}
 use Rattle.ct_keep.specs.KeeperViews.{Counts}
 use Rattle.ct_keep.specs.Looks.{no_looks, plus, scan_looks}
@@ -7,12 +8,17 @@ use Rattle.ct_entry.specs.declared.kinds.Kind.TheVariants as kind
 use Rattle.ct_entry.specs.Keys.{prefix_of}
 use Rattle.ct_entry.specs.Listings.{owner_entries}
 use Rattle.q_tree.specs.declared.flats.PatternBit.{PatternBit}
-use Rattle.q_tree.specs.declared.flats.Slot.TheVariants.{Any}
-use Rattle.q_tree.specs.ReducedQueries.{Reduced, Term}
+use Rattle.q_tree.specs.declared.flats.PatternBit.TheVariants.{Chars, Many}
+use Rattle.q_tree.specs.declared.flats.Place.TheVariants.{Zone}
+use Rattle.q_tree.specs.declared.flats.Slot.TheVariants.{Any, Takes}
+use Rattle.q_tree.specs.declared.queries.Op.TheVariants.{And}
+use Rattle.q_tree.specs.ReducedQueries.{Reduced, Term, Both, Within}
 use Rattle.ix_search.specs.declared.wanting.Wanted.{Wanted}
 use Rattle.ix_rows.specs.SpanRows.{section_term}
-use Rattle.ix_tokens.specs.Looking.{key_looks, key_rows, pattern_looks, pattern_rows}
+use Rattle.ix_tokens.specs.Looking.{key_looks, key_rows, pattern_looks, pattern_rows, foxes_behind, four_of_a_pattern, three_of_fox}
+pub use Rattle.ix_tokens.specs.Looking.{foxes}
 use Rattle.ix_tokens.specs.Promises.{AreFewLooks}
+use Rattle.ix_search.specs.Finding.{key_query}
 use Rattle.ix_search.specs.Parts.{keys_of, patterns_of}
 use Rattle.ix_search.specs.Reading.{wanted_slots, section_names}
 
@@ -78,3 +84,27 @@ any_is_not_read m = refl
 
 any_costs_nothing : (m : Content) → query_allowance m (codes "di") (Term ((Any ∷ []) ∷ [])) ≡ 0
 any_costs_nothing m = refl
+
+-- in a content that has three rows of `fox`, four whose tokens begin with `fo`, and one of the section `t`
+pub four_for_fox : keys_allowance foxes (codes "di") 0 (codes "fox" ∷ []) ≡ 4
+four_for_fox = ap (λ (n : ℕ). 0 + (1 + n)) three_of_fox
+
+for_a_pattern : patterns_allowance foxes (codes "di") 0 ((Chars (codes "fo") ∷ Many ∷ []) ∷ []) ≡ 260
+for_a_pattern = ap (λ (n : ℕ). 0 + (256 + n)) four_of_a_pattern
+
+one_of_t : name_rows foxes (codes "di") (codes "t") ≡ 1
+one_of_t = ap length (foxes_behind (prefix_of kind.Spans (codes "di") ++ section_term (codes "t")))
+
+-- the query `fox`, which costs the same where it has the word twice
+pub query_of_fox : query_allowance foxes (codes "di") (key_query (codes "fox")) ≡ 4
+query_of_fox = ap (λ (n : ℕ). 0 + (n + 0) + 0) four_for_fox
+
+fox_and_fox : query_allowance foxes (codes "di") (Both And (key_query (codes "fox")) (key_query (codes "fox"))) ≡ 4
+fox_and_fox = ap (λ (n : ℕ). 0 + (n + 0) + 0) four_for_fox
+
+-- `fox = fo%`, and `fox WITHIN t`
+fox_or_a_pattern : query_allowance foxes (codes "di") (Term ((Takes (codes "fox" ∷ []) ((Chars (codes "fo") ∷ Many ∷ []) ∷ []) ∷ []) ∷ [])) ≡ 264
+fox_or_a_pattern = λ i. 0 + (four_for_fox i + for_a_pattern i) + 0
+
+fox_in_a_section : query_allowance foxes (codes "di") (Within (Zone (codes "t")) (key_query (codes "fox"))) ≡ 6
+fox_in_a_section = λ i. 0 + (four_for_fox i + 0) + (0 + (1 + one_of_t i))

@@ -1,10 +1,16 @@
 -- How much the reading of the rows of keys and patterns looks at.
-use Rattle.std.specs.Prelude.{ℕ, ◌≡◌, ◌+◌, ◌-◌, ◌≤◌, max, zero, suc, Bool, true, false, List, [], ◌∷◌, ◌++◌, length, take, count_by, codes, refl}
+use Rattle.std.specs.Prelude.{ℕ, ◌≡◌, ◌+◌, ◌-◌, ◌≤◌, max, zero, suc, Bool, true, false, List, [], ◌∷◌, ◌++◌, length, take, filter, count_by, codes, refl}
+use Rattle.std.specs.FinMap.{entries, from_sorted, entries-from_sorted}
+use Rattle.std.specs.Ordering.{nat_cmp, is_lt}
+use Rattle.std.specs.Cmp.Lexicographic.{slice_cmp}
+use Rattle.std.proofs.Common.{ap, ◌∙◌}
 use Rattle.ct_keep.specs.Content.{Content, begins_with}
 use Rattle.ct_keep.specs.KeeperViews.{Counts}
 use Rattle.ct_keep.specs.Looks.{no_looks, plus, scan_looks}
+use Rattle.ct_keep.specs.Tail.{cut, tail}
+use Rattle.ct_keep.specs.laws.Tail.{entries-tail}
 use Rattle.ct_entry.specs.declared.kinds.Kind.TheVariants as kind
-use Rattle.ct_entry.specs.Keys.{prefix_of}
+use Rattle.ct_entry.specs.Keys.{bytes, key, posting_part, prefix_of, span_part}
 use Rattle.ct_entry.specs.Listings.{owner_entries}
 use Rattle.q_tree.specs.declared.flats.PatternBit.{PatternBit}
 use Rattle.q_tree.specs.declared.flats.PatternBit.TheVariants.{Chars, Many}
@@ -74,3 +80,31 @@ cafe_begins = refl
 -- a row of `ca`: that its first document begins with the byte of `f` doesn't count
 not_by_its_document : token_begins (codes "caf") (2 ∷ codes "ca" ++ 0x66 ∷ 0 ∷ 0 ∷ 1 ∷ []) ≡ false
 not_by_its_document = refl
+
+-- ---- computed examples: a content of the index `di`, which has a row of `dog`, one of `fog` and three of `fox` in the main stream, one of `fox`
+-- in the first field, and one of the section `t`; each row stands under its first document
+
+abbrev pub word_entry : ℕ → List ℕ → ℕ → List ℕ × List ℕ
+word_entry stream token document = (bytes (key kind.Postings (codes "di") (posting_part stream token document)), [])
+
+abbrev pub seven_rows : List (List ℕ × List ℕ)
+seven_rows =
+    word_entry 0 (codes "dog") 1 ∷ word_entry 0 (codes "fog") 2 ∷ word_entry 0 (codes "fox") 1 ∷ word_entry 0 (codes "fox") 40 ∷ word_entry 0 (codes "fox") 300
+    ∷ word_entry 1 (codes "fox") 1 ∷ (bytes (key kind.Spans (codes "di") (span_part (codes "t") 1)), []) ∷ []
+
+abbrev pub foxes : Content
+foxes = from_sorted seven_rows
+
+-- what it has behind a prefix
+pub foxes_behind : (p : List ℕ) → entries (tail p foxes) ≡ cut (length p) (filter (λ e. begins_with p e.0) (filter (λ e. is_lt (slice_cmp nat_cmp p e.0)) seven_rows))
+foxes_behind p = entries-tail p foxes ∙ ap (λ (es : List (List ℕ × List ℕ)). cut (length p) (filter (λ e. begins_with p e.0) (filter (λ e. is_lt (slice_cmp nat_cmp p e.0)) es))) (entries-from_sorted (slice_cmp nat_cmp) seven_rows tt)
+
+pub three_of_fox : key_rows foxes (codes "di") 0 (codes "fox") ≡ 3
+three_of_fox = ap length (foxes_behind (prefix_of kind.Postings (codes "di") ++ word_term 0 (codes "fox")))
+
+none_of_fo : key_rows foxes (codes "di") 0 (codes "fo") ≡ 0
+none_of_fo = ap length (foxes_behind (prefix_of kind.Postings (codes "di") ++ word_term 0 (codes "fo")))
+
+-- `fog` and `fox` begin so
+pub four_of_a_pattern : pattern_rows foxes (codes "di") 0 (Chars (codes "fo") ∷ Many ∷ []) ≡ 4
+four_of_a_pattern = ap (λ (es : List (List ℕ × List ℕ)). count_by (λ e. token_begins (codes "fo") e.0) es) (foxes_behind (prefix_of kind.Postings (codes "di") ++ 0 ∷ []))

@@ -1,7 +1,9 @@
 -- What the law of look-ups says.
-use Rattle.std.specs.Prelude.{ℕ, ◌≡◌, ◌≤◌, ◌+◌, List}
+use Rattle.std.specs.Prelude.{ℕ, ◌≡◌, ◌≤◌, ◌+◌, List, refl}
+use Rattle.std.proofs.Common.{arith}
 use Rattle.ct_keep.specs.Content.{Content}
 use Rattle.ct_keep.specs.KeeperViews.{Counts}
+use Rattle.ct_keep.specs.Looks.{no_looks}
 use Rattle.q_tree.specs.declared.flats.PatternBit.{PatternBit}
 use Rattle.ix_tokens.specs.Looking.{key_looks, key_rows, pattern_looks, pattern_rows}
 
@@ -15,3 +17,7 @@ pub record AreFewLooks (limit : ℕ) (looks : Counts) : Type 0 where
 pub record LooksAreBounded : Type 0 where
   pub of_key : (m : Content) (i : List ℕ) (stream : ℕ) (key : List ℕ) → AreFewLooks (1 + key_rows m i stream key) (key_looks m i stream key)
   pub of_pattern : (m : Content) (i : List ℕ) (stream : ℕ) (p : List PatternBit) → AreFewLooks (256 + pattern_rows m i stream p) (pattern_looks m i stream p)
+
+-- computed example: three rows where four are allowed
+three_of_four : AreFewLooks 4 (record no_looks { rows = 3 })
+three_of_four = record { rows = omega arith; texts = refl }

@@ -1,6 +1,8 @@
 -- The rows of the tokens that have a pattern.
 use Rattle.std.specs.Prelude.{ℕ, ◌≡◌, true, List, [], ◌∷◌, codes, refl}
 use Rattle.std.specs.Str.{chars, IsUtf8}
+use lib.Utf8.{encode}
+use Rattle.std.proofs.Common.{arith}
 use Rattle.ct_keep.specs.Content.{Content}
 use Rattle.ct_entry.specs.declared.kinds.Kind.TheVariants as kind
 use Rattle.ct_entry.specs.Keys.{IsToken}
@@ -69,3 +71,7 @@ of_five_bytes = refl
 -- what a content holds of no token isn't given
 none_held : (m : Content) (i : List ℕ) (p : List PatternBit) (all : List (List (List WordDocument))) → AreMatchesIn m i 0 p all → HoldsStream m i 0 (λ stream token. []) → EachIs (IsMatchingRow (λ stream token. []) 0 p) all
 none_held m i p all are holds = (are (λ stream token. []) holds).each
+
+cafe_has : HasPattern (Chars (codes "caf") ∷ Many ∷ []) (codes "cafe")
+unfolding chars encode
+cafe_has = record { is = record { some = omega arith; short = omega arith }; text = (codes "cafe", refl, refl); matches = refl }

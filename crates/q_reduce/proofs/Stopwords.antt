@@ -1,6 +1,6 @@
 -- Queries of stopwords alone find nothing.
 use Rattle.std.proofs.Common.{◌≡◌, ℕ, Bool, true, false, cond, List, [], ◌∷◌, ◌++◌, map, refl, sym, ap, ◌∙◌}
-use Rattle.std.specs.Prelude.{not, filter, ◌&&◌, Option, Some, None}
+use Rattle.std.specs.Prelude.{not, filter, ◌&&◌, is_none, Option, Some, None}
 use Rattle.std.specs.List.{list_all, flat_map}
 use Rattle.std.specs.Option.{option_map}
 use Rattle.std.proofs.lemmas.Bool.{and_parts, and_from}
@@ -12,13 +12,15 @@ use Rattle.q_tree.specs.declared.flats.Slot.TheVariants.{Any, Takes}
 use Rattle.th_graph.specs.declared.pairs.TermPair.{TermPair}
 use Rattle.q_tree.specs.declared.queries.Leaf.{Leaf}
 use Rattle.q_tree.specs.declared.queries.Leaf.TheVariants.{Phrase, Thes}
+use Rattle.q_tree.specs.declared.queries.Relation.{Relation}
 use Rattle.q_tree.specs.declared.queries.Word.{Word}
 use Rattle.q_tree.specs.Limits.{has_wildcard}
 use Rattle.q_tree.specs.Soundness.{takes_some}
 use Rattle.q_tree.specs.Trees.{Single, Both, Weight, Above, Near, Within, Define}
 use Rattle.q_tree.specs.ReducedQueries.{Weight as ReducedWeight, Above as ReducedAbove}
-use Rattle.q_reduce.specs.Promises.{leaf_words, query_words, has_only_stopwords, StopwordsFindNothing}
-use Rattle.q_reduce.specs.Reducing.{Context, word_keys, pattern, key_slot, word_slots, joined_keys, joined_patterns, in_order, slot_of, joined_slot, place_slots, front_dropped, end_dropped, phrases_of_slots, leaf_phrases, operator_phrases, thesaurus_named, operand_phrases, term, both_query, has_phrase, near_query, named_place, within_place, define_query, reduced}
+use Rattle.q_reduce.specs.Naming.{leaf_names, leaves_names, names_in}
+use Rattle.q_reduce.specs.Promises.{leaf_words, query_words, has_only_stopwords, lacks_thesaurus, PlainStopwordsFindNothing, StopwordsFindNothing}
+use Rattle.q_reduce.specs.Reducing.{Context, word_keys, pattern, key_slot, word_slots, joined_keys, joined_patterns, in_order, slot_of, joined_slot, place_slots, front_dropped, end_dropped, phrases_of_slots, leaf_phrases, operator_phrases, thesaurus_named, operand_phrases, term, both_query, has_phrase, kept_operands, near_query, named_place, within_place, define_query, reduced}
 
 -- ---- lists
 
@@ -29,11 +31,14 @@ none_joined f p (x ∷ xs) each all =
     let parts = and_parts (p x) (list_all p xs) all in
     ap (λ l. l ++ flat_map f xs) (each x parts.0) ∙ none_joined f p xs each parts.1
 
+all_parts : {X : Type 0} (p : X → Bool) (xs ys : List X) → list_all p (xs ++ ys) ≡ true → (list_all p xs ≡ true) × (list_all p ys ≡ true)
+all_parts p xs ys all = and_parts (list_all p xs) (list_all p ys) (sym (list_all-append p xs ys) ∙ all)
+
 -- all of the lists that make up a list
 each_list : {X Y : Type 0} (p : Y → Bool) (f : X → List Y) (xs : List X) → list_all p (flat_map f xs) ≡ true → list_all (λ x. list_all p (f x)) xs ≡ true
 each_list p f [] all = refl
 each_list p f (x ∷ xs) all =
-    let parts = and_parts (list_all p (f x)) (list_all p (flat_map f xs)) (sym (list_all-append p (f x) (flat_map f xs)) ∙ all) in
+    let parts = all_parts p (f x) (flat_map f xs) all in
     and_from _ _ parts.0 (each_list p f xs parts.1)
 
 all_joined_where : {X Y : Type 0} (q : Y → Bool) (f : X → List Y) (p : X → Bool) (xs : List X) → ((x : X) → p x ≡ true → list_all q (f x) ≡ true) → list_all p xs ≡ true → list_all q (flat_map f xs) ≡ true
@@ -97,22 +102,35 @@ none_left (Takes keys patterns ∷ slots) all = absurd (cc)
 
 -- ---- phrases
 
-no_phrase : (x : Context) → x.thesauri ≡ [] → (leaf : Leaf) → list_all (has_only_stopwords x) (leaf_words leaf) ≡ true → leaf_phrases x leaf ≡ []
-no_phrase x none (Phrase places) stop =
+-- whether none of the thesauri of these names is there
+abbrev pub lacks_all : Context → List (List ℕ) → Bool
+lacks_all x names = list_all (lacks_thesaurus x) names
+
+of_no_thesaurus : (x : Context) (o : Option (List TermPair)) (relation : Relation) (level : ℕ) (words : List Word) → is_none o ≡ true → operator_phrases x o relation level words ≡ []
+of_no_thesaurus x None relation level words none = refl
+of_no_thesaurus x (Some ps) relation level words none = absurd (cc)
+
+no_phrase : (x : Context) (leaf : Leaf) → lacks_all x (leaf_names leaf) ≡ true → list_all (has_only_stopwords x) (leaf_words leaf) ≡ true → leaf_phrases x leaf ≡ []
+no_phrase x (Phrase places) absent stop =
     let each = each_list (has_only_stopwords x) (λ (words : List Word). words) places stop in
     let any = all_joined_where is_any (place_slots x) (list_all (has_only_stopwords x)) places (any_place x) each in
     ap (λ slots. phrases_of_slots (end_dropped slots)) (none_left (flat_map (place_slots x) places) any)
-no_phrase x none (Thes relation words level thesaurus) stop = ap (λ (ts : List (List ℕ × List TermPair)). operator_phrases x (thesaurus_named thesaurus ts) relation level words) none
+no_phrase x (Thes relation words level thesaurus) absent stop =
+    of_no_thesaurus x (thesaurus_named thesaurus x.thesauri) relation level words (and_parts (lacks_thesaurus x thesaurus) true absent).0
 
-no_phrases : (x : Context) → x.thesauri ≡ [] → (leaves : List Leaf) → list_all (has_only_stopwords x) (flat_map leaf_words leaves) ≡ true → operand_phrases x leaves ≡ []
-no_phrases x none leaves stop =
-    none_joined (leaf_phrases x) (λ leaf. list_all (has_only_stopwords x) (leaf_words leaf)) leaves (no_phrase x none) (each_list (has_only_stopwords x) leaf_words leaves stop)
+no_phrases : (x : Context) (leaves : List Leaf) → lacks_all x (leaves_names leaves) ≡ true → list_all (has_only_stopwords x) (flat_map leaf_words leaves) ≡ true → operand_phrases x leaves ≡ []
+no_phrases x [] absent stop = refl
+no_phrases x (leaf ∷ leaves) absent stop =
+    let a = all_parts (lacks_thesaurus x) (leaf_names leaf) (leaves_names leaves) absent in
+    let s = all_parts (has_only_stopwords x) (leaf_words leaf) (flat_map leaf_words leaves) stop in
+    ap (λ ps. ps ++ operand_phrases x leaves) (no_phrase x leaf a.0 s.0) ∙ no_phrases x leaves a.1 s.1
 
-no_operand : (x : Context) → x.thesauri ≡ [] → (ops : List (List Leaf)) → list_all (λ leaves. list_all (has_only_stopwords x) (flat_map leaf_words leaves)) ops ≡ true → filter has_phrase (map (operand_phrases x) ops) ≡ []
-no_operand x none [] stop = refl
-no_operand x none (op ∷ ops) stop =
-    let parts = and_parts (list_all (has_only_stopwords x) (flat_map leaf_words op)) (list_all (λ leaves. list_all (has_only_stopwords x) (flat_map leaf_words leaves)) ops) stop in
-    ap (λ ps. filter has_phrase (ps ∷ map (operand_phrases x) ops)) (no_phrases x none op parts.0) ∙ no_operand x none ops parts.1
+no_operand : (x : Context) (ops : List (List Leaf)) → lacks_all x (flat_map leaves_names ops) ≡ true → list_all (has_only_stopwords x) (flat_map (flat_map leaf_words) ops) ≡ true → kept_operands x ops ≡ []
+no_operand x [] absent stop = refl
+no_operand x (op ∷ ops) absent stop =
+    let a = all_parts (lacks_thesaurus x) (leaves_names op) (flat_map leaves_names ops) absent in
+    let s = all_parts (has_only_stopwords x) (flat_map leaf_words op) (flat_map (flat_map leaf_words) ops) stop in
+    ap (λ ps. filter has_phrase (ps ∷ map (operand_phrases x) ops)) (no_phrases x op a.0 s.0) ∙ no_operand x ops a.1 s.1
 
 -- ---- queries
 
@@ -121,12 +139,16 @@ within_none None = refl
 within_none (Some place) = refl
 
 pub stopwords_find_nothing : StopwordsFindNothing
-stopwords_find_nothing x (Single leaf) none stop = ap term (no_phrase x none leaf stop)
-stopwords_find_nothing x (Both op a b) none stop =
-    let parts = and_parts (list_all (has_only_stopwords x) (query_words a)) (list_all (has_only_stopwords x) (query_words b)) (sym (list_all-append (has_only_stopwords x) (query_words a) (query_words b)) ∙ stop) in
-    ap (λ q. both_query op q (reduced x b)) (stopwords_find_nothing x a none parts.0) ∙ ap (both_query op None) (stopwords_find_nothing x b none parts.1)
-stopwords_find_nothing x (Weight tenths a) none stop = ap (option_map (ReducedWeight tenths)) (stopwords_find_nothing x a none stop)
-stopwords_find_nothing x (Above n a) none stop = ap (option_map (ReducedAbove n)) (stopwords_find_nothing x a none stop)
-stopwords_find_nothing x (Near ops span ordered) none stop = ap (near_query span ordered) (no_operand x none ops (each_list (has_only_stopwords x) (flat_map leaf_words) ops stop))
-stopwords_find_nothing x (Within name a) none stop = ap (within_place (named_place x.group name)) (stopwords_find_nothing x a none stop) ∙ within_none (named_place x.group name)
-stopwords_find_nothing x (Define leaves sum) none stop = ap (define_query sum) (no_phrases x none leaves stop)
+stopwords_find_nothing x (Single leaf) absent stop = ap term (no_phrase x leaf absent stop)
+stopwords_find_nothing x (Both op a b) absent stop =
+    let l = all_parts (lacks_thesaurus x) (names_in a) (names_in b) absent in
+    let s = all_parts (has_only_stopwords x) (query_words a) (query_words b) stop in
+    ap (λ q. both_query op q (reduced x b)) (stopwords_find_nothing x a l.0 s.0) ∙ ap (both_query op None) (stopwords_find_nothing x b l.1 s.1)
+stopwords_find_nothing x (Weight tenths a) absent stop = ap (option_map (ReducedWeight tenths)) (stopwords_find_nothing x a absent stop)
+stopwords_find_nothing x (Above n a) absent stop = ap (option_map (ReducedAbove n)) (stopwords_find_nothing x a absent stop)
+stopwords_find_nothing x (Near ops span ordered) absent stop = ap (near_query span ordered) (no_operand x ops absent stop)
+stopwords_find_nothing x (Within name a) absent stop = ap (within_place (named_place x.group name)) (stopwords_find_nothing x a absent stop) ∙ within_none (named_place x.group name)
+stopwords_find_nothing x (Define leaves sum) absent stop = ap (define_query sum) (no_phrases x leaves absent stop)
+
+pub plain_stopwords_find_nothing : PlainStopwordsFindNothing
+plain_stopwords_find_nothing x t plain stop = stopwords_find_nothing x t (ap (lacks_all x) plain) stop

@@ -1,11 +1,13 @@
 -- What the laws of reduction say.
-use Rattle.std.specs.Prelude.{None, ℕ, ◌≡◌, Bool, true, false, not, ◌&&◌, List, [], ◌∷◌, ◌++◌, IfSome, refl}
+use Rattle.std.specs.Prelude.{None, ℕ, ◌≡◌, Bool, true, false, not, ◌&&◌, is_none, List, [], ◌∷◌, ◌++◌, map, IfSome, codes, refl}
 use Rattle.std.specs.List.{list_all, list_any, flat_map}
 use lib.ListN.{replicate}
 use Rattle.tx_tags.specs.Groups.{is_group}
 use Rattle.tx_stop.specs.StopKeys.{is_stop}
 use Rattle.q_tree.specs.declared.flats.Slot.{Slot}
 use Rattle.q_tree.specs.declared.flats.Slot.TheVariants.{Any}
+use Rattle.th_graph.specs.declared.pairs.TermPair.{TermPair}
+use Rattle.q_tree.specs.declared.queries.Op.{Op}
 use Rattle.q_tree.specs.declared.queries.Word.{Word}
 use Rattle.q_tree.specs.declared.queries.Leaf.{Leaf}
 use Rattle.q_tree.specs.declared.queries.Leaf.TheVariants.{Phrase, Thes}
@@ -13,7 +15,8 @@ use Rattle.q_tree.specs.Limits.{has_wildcard, keeps_limits}
 use Rattle.q_tree.specs.Slots.{has_key}
 use Rattle.q_tree.specs.Soundness.{slot_keys_rise, takes_some, ends_well, is_sound}
 use Rattle.q_tree.specs.Trees.{Tree, Single, Both, Weight, Above, Near, Within, Define}
-use Rattle.q_reduce.specs.Reducing.{Context, word_keys, joined_keys, in_order, trimmed, reduced}
+use Rattle.q_reduce.specs.Naming.{names_in}
+use Rattle.q_reduce.specs.Reducing.{Context, word_keys, joined_keys, in_order, thesaurus_named, trimmed, reduced}
 
 -- What a query that keeps the limits is reduced to is sound.
 abbrev pub ReducedIsSound : Type 0
@@ -71,9 +74,17 @@ query_words (Define leaves sum) = flat_map leaf_words leaves
 abbrev pub has_only_stopwords : Context → Word → Bool
 has_only_stopwords x w = not (has_wildcard w.bits) && list_all (is_stop x.stop) (word_keys x w)
 
+-- whether there is no thesaurus of the name
+abbrev pub lacks_thesaurus : Context → List ℕ → Bool
+lacks_thesaurus x name = is_none (thesaurus_named name x.thesauri)
+
 -- Where none of the thesauri that it names is there, a query of stopwords alone finds nothing.
 abbrev pub StopwordsFindNothing : Type 0
-StopwordsFindNothing = (x : Context) (t : Tree) → x.thesauri ≡ [] → list_all (has_only_stopwords x) (query_words t) ≡ true → reduced x t ≡ None
+StopwordsFindNothing = (x : Context) (t : Tree) → list_all (lacks_thesaurus x) (names_in t) ≡ true → list_all (has_only_stopwords x) (query_words t) ≡ true → reduced x t ≡ None
+
+-- One without operators of thesauri finds nothing, whatever thesauri are there.
+abbrev pub PlainStopwordsFindNothing : Type 0
+PlainStopwordsFindNothing = (x : Context) (t : Tree) → names_in t ≡ [] → list_all (has_only_stopwords x) (query_words t) ≡ true → reduced x t ≡ None
 
 -- ---- computed examples
 
@@ -86,3 +97,11 @@ not_trimmed slot is = is.0
 
 words_of_places : (u v w : Word) → leaf_words (Phrase ((u ∷ v ∷ []) ∷ (w ∷ []) ∷ [])) ≡ u ∷ v ∷ w ∷ []
 words_of_places u v w = refl
+
+-- a query of two phrases names none, so nothing is asked of the thesauri that are there
+two_phrases_name_none : (x : Context) (op : Op) (places more : List (List Word)) → list_all (lacks_thesaurus x) (names_in (Both op (Single (Phrase places)) (Single (Phrase more)))) ≡ true
+two_phrases_name_none x op places more = refl
+
+-- where `a` is there, `b` may be named, and `a` not
+another_is_there : (x : Context) (ps : List TermPair) → map (lacks_thesaurus (record x { thesauri = (codes "a", ps) ∷ [] })) (codes "a" ∷ codes "b" ∷ []) ≡ false ∷ true ∷ []
+another_is_there x ps = refl

@@ -1,6 +1,6 @@
 //! What holds of all reductions. The functions here only state laws, which their contracts prove.
 
-ghost use Rattle.q_reduce.specs.Promises.{JoinedKeysAreThoseOfWords, JoinedKeysRise, NoAnyAtEnds, OnlyAnyIsDropped, ReducedIsSound, StopwordsFindNothing};
+ghost use Rattle.q_reduce.specs.Promises.{JoinedKeysAreThoseOfWords, JoinedKeysRise, NoAnyAtEnds, OnlyAnyIsDropped, PlainStopwordsFindNothing, ReducedIsSound, StopwordsFindNothing};
 
 /// What a query that keeps the limits is reduced to is sound.
 pub fn reduced_is_sound()
@@ -19,7 +19,8 @@ pub fn trimming_laws()
     ensures ends { NoAnyAtEnds }
 {}
 
-/// A query of stopwords alone finds nothing.
+/// A query of stopwords alone finds nothing where none of the thesauri that it names is there; so one that names none finds nothing.
 pub fn stopwords_find_nothing()
-    ensures { StopwordsFindNothing }
+    ensures where_none_is_there { StopwordsFindNothing }
+    ensures plain { PlainStopwordsFindNothing }
 {}

@@ -1,6 +1,6 @@
 -- What the calls of an expansion answer.
 use Rattle.std.specs.Prelude.{ℕ, ◌≡◌, ◌<◌, ◌≤◌, true, false, not, ◌&&◌, ◌||◌, List, [], ◌∷◌, length, replicate, codes, Vec, Result, Ok, Err, refl}
-use Rattle.std.proofs.Common.{lit<}
+use Rattle.std.proofs.Common.{arith, lit<}
 use Rattle.std.specs.declared.alloc.Global.{Global}
 use Rattle.th_graph.specs.declared.faults.ExpandFault.{ExpandFault}
 use Rattle.th_graph.specs.declared.faults.ExpandFault.TheVariants.{TooMany, Memory}
@@ -51,3 +51,6 @@ dog_is_not now new = new (codes "dog")
 -- `cat` stands before `dog` then
 found_in_order : with_ordered_terms (codes "dog" ∷ []) (codes "cat" ∷ codes "dog" ∷ []) ≡ codes "cat" ∷ codes "dog" ∷ []
 found_in_order = refl
+
+two_within : AreWithinLimit (codes "cat" ∷ codes "dog" ∷ [])
+two_within = record { rises = refl; limited = omega arith }

@@ -1,5 +1,5 @@
 -- What the functions of `src/laws.rt` promise of all thesauri.
-use Rattle.std.specs.Prelude.{ℕ, ◌≡◌, ◌<◌, Bool, true, false, ◌||◌, List, [], length, Option, Some, None}
+use Rattle.std.specs.Prelude.{ℕ, ◌≡◌, ◌<◌, Bool, true, false, ◌||◌, List, [], ◌∷◌, map, length, Option, Some, None, codes, refl}
 use Rattle.std.specs.FinMap.{get, insert, entries}
 use Rattle.ct_base.specs.Names.{IsName}
 use Rattle.ct_entry.specs.declared.kinds.Kind.{Kind}
@@ -8,6 +8,7 @@ use Rattle.ct_entry.specs.Keys.{Key, bytes}
 use Rattle.ct_entry.specs.Lists.{IsIn}
 use Rattle.ct_entry.specs.Changes.{view, AllOf}
 use Rattle.q_tree.specs.declared.queries.Relation.{Relation}
+use Rattle.q_tree.specs.declared.queries.Relation.TheVariants.{Broader}
 use Rattle.th_graph.specs.declared.pairs.TermPair.{TermPair}
 use Rattle.th_graph.specs.Pairs.{has_term_pair, stated_pair, same_term_pair}
 use Rattle.th_graph.specs.Relating.{is_known, pair_limit}
@@ -64,3 +65,18 @@ CreatedStay = (ts : Thesauri) (name : List ℕ) → AreThesauri ts → IsName na
 abbrev pub RelatedStay : Type 0
 RelatedStay = (ts : Thesauri) (name : List ℕ) (ps : PairSet) (relation : Relation) (a b : List ℕ) → get ts name ≡ Some ps → AreThesauri ts → is_term_text a ≡ true → is_term_text b ≡ true → is_known relation a b (pairs_of ps) ≡ false → length (entries ps) < pair_limit
     → AreThesauri (with_pair ts name (stated_pair relation a b))
+
+-- ---- computed examples
+
+both_kinds : map is_of_thesauri (kind.Thesauri ∷ kind.Relations ∷ kind.Stoplists ∷ []) ≡ true ∷ true ∷ false ∷ []
+both_kinds = refl
+
+abbrev dog_below_animal : TermPair
+dog_below_animal = stated_pair Broader (codes "dog") (codes "animal")
+
+-- by the law of one pair more, it is there, and one that states the other way round is there only if it was
+it_is_there : OnePairMore → (ps : PairSet) → has_term_pair dog_below_animal (pairs_of (insert ps dog_below_animal tt)) ≡ true
+it_is_there law ps = law ps dog_below_animal dog_below_animal
+
+not_the_other : OnePairMore → (ps : PairSet) → has_term_pair (stated_pair Broader (codes "animal") (codes "dog")) (pairs_of (insert ps dog_below_animal tt)) ≡ has_term_pair (stated_pair Broader (codes "animal") (codes "dog")) (pairs_of ps)
+not_the_other law ps = law ps dog_below_animal (stated_pair Broader (codes "animal") (codes "dog"))
