@@ -67,7 +67,7 @@ meaning_of_reduction [] q = Finds q
 abbrev pub meaning_by : Prefs → List NamedPairs → Tree → Meaning
 meaning_by p thesauri t = meaning_of_reduction (faults (reduction_context p thesauri) false t) (reduced (reduction_context p thesauri) t)
 
--- by the thesauri that the query names; each of its operators finds by its name what the state has there, which is a law (`named_is_stored`)
+-- by the thesauri that the query names; that it means the same by all thesauri of the state is a law (`meaning_by_all`)
 abbrev pub meaning_of_tree : Prefs → Thesauri → Tree → Meaning
 meaning_of_tree p ts t = meaning_by p (thesauri_of ts (thesauri_in t)) t
 

@@ -1,8 +1,8 @@
 -- The thesauri that a query names, as a state has them; and what loading them looks up.
-use Rattle.std.specs.Prelude.{ℕ, ◌≡◌, List, [], ◌∷◌, ◌++◌, Option, Some, None, IsSome, codes, refl}
+use Rattle.std.specs.Prelude.{ℕ, ◌≡◌, List, [], ◌∷◌, ◌++◌, map, Option, Some, None, IsSome, codes, refl}
 use Rattle.std.specs.List.{flat_map}
 use Rattle.std.specs.Option.{option_map}
-use Rattle.std.specs.FinMap.{get, get-empty}
+use Rattle.std.specs.FinMap.{entries, get, get-empty}
 use Rattle.std.specs.Ordering.{nat_cmp}
 use Rattle.std.specs.Cmp.Lexicographic.{slice_cmp}
 use Rattle.std.proofs.Common.{ap}
@@ -32,6 +32,10 @@ named_thesaurus ts name = found_thesaurus name (option_map pairs_of (get ts name
 -- THE THESAURI of these names that are there
 abbrev pub thesauri_of : Thesauri → List (List ℕ) → List NamedPairs
 thesauri_of ts names = flat_map (named_thesaurus ts) names
+
+-- all thesauri of a state
+abbrev pub all_thesauri : Thesauri → List NamedPairs
+all_thesauri ts = map {B = NamedPairs} (λ e. (e.0, pairs_of e.1)) (entries ts)
 
 -- to those that code holds the thesaurus of a name was added, if it is there
 abbrev pub AddsNamed : Thesauri → List ℕ → List NamedThesaurus → List NamedThesaurus → Type 0

@@ -4,3 +4,4 @@ pub mod Results
 pub mod Naming
 pub mod Examples
 pub mod Promises
+pub mod laws

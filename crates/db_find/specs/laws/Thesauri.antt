@@ -1,19 +1,25 @@
--- Each operator of a query finds by its name what the state has under it, though only the thesauri that the query names are at hand.
-use Rattle.std.proofs.Common.{◌≡◌, ℕ, Bool, true, false, cond, List, [], ◌∷◌, ◌++◌, Option, Some, None, refl, ap, ◌∙◌}
+-- A query means by the thesauri that it names what it means by all that the state has: each of its operators finds the same by its name.
+use Rattle.std.proofs.Common.{◌≡◌, ℕ, Bool, true, false, cond, List, [], ◌∷◌, ◌++◌, map, Option, Some, None, refl, sym, ap, ◌∙◌}
 use Rattle.std.specs.Prelude.{◌||◌, bytes_eq}
 use Rattle.std.specs.List.{list_any}
 use Rattle.std.specs.Option.{option_map}
-use Rattle.std.specs.FinMap.{get}
+use Rattle.std.specs.FinMap.{entries, find, get, get-entries}
+use Rattle.std.specs.Ordering.{eq_by_cmp, nat_cmp}
+use Rattle.std.specs.Cmp.Lexicographic.{slice_cmp}
+use Rattle.std.proofs.lemmas.Map.Text.{is_eq-slice_cmp}
 use Rattle.std.proofs.lemmas.Bool.{false≢true}
 use Rattle.std.proofs.lemmas.Slice.Eq.{bytes_eq-Decides}
 use Rattle.std.proofs.lemmas.List.Folds.{list_any-append}
 use Rattle.q_tree.specs.Trees.{Tree}
 use Rattle.q_reduce.specs.Naming.{names_in, thesauri_in, with_thesaurus_name, with_thesaurus_names}
 use Rattle.q_reduce.specs.Reducing.{thesaurus_named}
+use Rattle.q_reduce.specs.laws.Named.{FindSame, same_faults, same_reduced}
 use Rattle.th_graph.specs.declared.pairs.TermPair.{TermPair}
 use Rattle.th_graph.specs.laws.Rising.{other_way}
+use Rattle.tx_settings.specs.declared.preferences.Prefs.{Prefs}
 use Rattle.th_store.specs.Thesauri.{PairSet, Thesauri, pairs_of}
-use Rattle.db_find.specs.Thesauri.{NamedPairs, found_thesaurus, thesauri_of}
+use Rattle.db_find.specs.Thesauri.{NamedPairs, all_thesauri, found_thesaurus, thesauri_of}
+use Rattle.db_find.specs.Querying.{meaning_by, meaning_of_reduction, meaning_of_tree, reduction_context}
 
 -- ---- the names of a query
 
@@ -100,6 +106,29 @@ module _ (ts : Thesauri) (n : List ℕ) where
       go None e = none_at_hand e names
       go (Some ps) e = some_at_hand ps e names there
 
--- WHAT AN OPERATOR FINDS by its name, among the thesauri that its query names, is what the state has under the name.
+-- what an operator finds by its name, among the thesauri that its query names, is what the state has under the name
 pub named_is_stored : (ts : Thesauri) (t : Tree) (n : List ℕ) → list_any (bytes_eq n) (names_in t) ≡ true → thesaurus_named n (thesauri_of ts (thesauri_in t)) ≡ option_map pairs_of (get ts n)
 named_is_stored ts t n there = at_hand ts n (thesauri_in t) (each_named n [] (names_in t) there)
+
+-- ---- as if all were at hand
+
+find_named : (n : List ℕ) (es : List (List ℕ × PairSet)) → thesaurus_named n (map {B = NamedPairs} (λ e. (e.0, pairs_of e.1)) es) ≡ option_map pairs_of (find (slice_cmp nat_cmp) n es)
+find_named n [] = refl
+find_named n (e ∷ es) =
+    ap (λ (b : Bool). cond b (Some (pairs_of e.1)) (thesaurus_named n (map {B = NamedPairs} (λ d. (d.0, pairs_of d.1)) es))) (other_way e.0 n ∙ sym (is_eq-slice_cmp n e.0))
+    ∙ go (eq_by_cmp (slice_cmp nat_cmp) n e.0) (find_named n es)
+  where
+    go : (b : Bool) → thesaurus_named n (map {B = NamedPairs} (λ d. (d.0, pairs_of d.1)) es) ≡ option_map pairs_of (find (slice_cmp nat_cmp) n es)
+        → cond b (Some (pairs_of e.1)) (thesaurus_named n (map {B = NamedPairs} (λ d. (d.0, pairs_of d.1)) es)) ≡ option_map pairs_of (cond b (Some e.1) (find (slice_cmp nat_cmp) n es))
+    go true rest = refl
+    go false rest = rest
+
+among_all : (ts : Thesauri) (n : List ℕ) → thesaurus_named n (all_thesauri ts) ≡ option_map pairs_of (get ts n)
+among_all ts n = find_named n (entries ts) ∙ ap (option_map pairs_of) (sym (get-entries ts n))
+
+-- WHAT A QUERY MEANS, though only the thesauri that it names are looked up, is what it means by all thesauri of the state.
+pub meaning_by_all : (p : Prefs) (ts : Thesauri) (t : Tree) → meaning_of_tree p ts t ≡ meaning_by p (all_thesauri ts) t
+meaning_by_all p ts t =
+    let same : FindSame (names_in t) (thesauri_of ts (thesauri_in t)) (all_thesauri ts) = λ n there. named_is_stored ts t n there ∙ sym (among_all ts n) in
+    let x = reduction_context p (thesauri_of ts (thesauri_in t)) in
+    λ i. meaning_of_reduction (same_faults x (all_thesauri ts) false t same i) (same_reduced x (all_thesauri ts) t same i)
