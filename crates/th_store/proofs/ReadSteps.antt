@@ -1,5 +1,5 @@
 -- Steps of reading the rests of keys.
-use Rattle.std.proofs.Common.{◌≡◌, ℕ, ◌<◌, ◌≤◌, true, List, [], ◌∷◌, ◌++◌, length, map, None, refl, sym, ap, ◌∙◌, arith, append-nil, append_assoc, ◌-◌, take, drop, get_or}
+use Rattle.std.proofs.Common.{◌≡◌, ℕ, ◌≤◌, true, List, [], ◌∷◌, ◌++◌, length, map, None, sym, ap, ◌∙◌, arith, append-nil, append_assoc, ◌-◌, take, drop, get_or}
 use Rattle.std.specs.List.{list_all}
 use Rattle.std.proofs.lemmas.Bool.{and_parts}
 use Rattle.std.proofs.Math.Seq.{take-length}
@@ -44,15 +44,6 @@ split_at [] h = absurd (omega (arith, h))
 split_at (y ∷ ys) h = let n : length (y ∷ ys) - 1 ≡ length ys = omega arith in rw n (ap (λ (zs : List ℕ). y ∷ zs) (sym (take-length ys)))
 
 -- ---- several pairs
-
-module _ {X : Type 0} where
-  pub none_left : (xs : List X) → length xs < 1 → xs ≡ []
-  none_left [] few = refl
-  none_left (x ∷ xs) few = absurd (omega (arith, few))
-
-  pub first_of : (xs : List X) (x : X) → 1 ≤ length xs → x ≡ get_or xs 0 x → xs ≡ x ∷ take (length xs - 1) (drop 1 xs)
-  first_of [] x h is = absurd (omega (arith, h))
-  first_of (y ∷ ys) x h is = let n : length (y ∷ ys) - 1 ≡ length ys = omega arith in rw n (ap (λ z. z ∷ ys) (sym is) ∙ ap (λ zs. x ∷ zs) (sym (take-length ys)))
 
 -- Of these pairs some were put, and these rests spell the others.
 pub record Left (done ps : List TermPair) (rests : List (List ℕ)) : Type 0 where

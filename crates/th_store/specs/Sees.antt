@@ -1,5 +1,5 @@
 -- What calls say of the thesauri that a content holds, by the view of the keeper before them.
-use Rattle.std.specs.Prelude.{ℕ, ◌≡◌, Bool, true, false, nat_le, is_some, List, [], length, Some, Result, refl}
+use Rattle.std.specs.Prelude.{ℕ, ◌≡◌, Bool, true, false, nat_le, is_some, List, [], length, Some, Result, codes, refl}
 use Rattle.std.specs.FinMap.{get, get-empty, entries}
 use Rattle.std.specs.Ordering.{nat_cmp}
 use Rattle.std.specs.Cmp.Lexicographic.{slice_cmp}
@@ -28,6 +28,10 @@ SeesThesauri view old result gives = Finds view old result (λ m x. (ts : Thesau
 abbrev pub SeesThesaurus : {K T : Type 0} → (K → KeeperView) → K → List ℕ → Result T KeepFault → (PairSet → T → Type 0) → Type 0
 SeesThesaurus view old name result gives = SeesThesauri view old result (λ ts x. (ps : PairSet) → get ts name ≡ Some ps → gives ps x)
 
+-- what holds of one of the thesauri that a content holds, whichever these are, where there is one of the name
+abbrev pub OfThesaurus : Content → List ℕ → (PairSet → Type 0) → Type 0
+OfThesaurus m name holds = (ts : Thesauri) → HoldsThesauri m ts → (ps : PairSet) → get ts name ≡ Some ps → holds ps
+
 -- whether there is one of this name
 abbrev pub has_thesaurus : List ℕ → Thesauri → Bool
 has_thesaurus name ts = is_some (get ts name)
@@ -51,3 +55,7 @@ none_yet name = ap is_some (get-empty (slice_cmp nat_cmp) name)
 
 no_names : AreNames [] no_thesauri
 no_names = record { rises = refl; each = λ name. sym (none_yet name) }
+
+-- of a thesaurus of a content that isn't at its limit
+still_room : (m : Content) (ts : Thesauri) (ps : PairSet) → HoldsThesauri m ts → get ts (codes "th") ≡ Some ps → OfThesaurus m (codes "th") (λ qs. is_at_pair_limit qs ≡ false) → is_at_pair_limit ps ≡ false
+still_room m ts ps holds there room = room ts holds ps there

@@ -1,7 +1,7 @@
 //! Thesauri by their names, as a keeper has them.
 #![tactic(auto, using(ct_keep::specs::laws::Composing::reads_on, ct_keep::specs::laws::Composing::reads_short))]
 
-ghost use Rattle.std.specs.Prelude.{◌≡◌, [], Some, IfOk, OnOk, IsPermutation, IsSorted, length, nat_le};
+ghost use Rattle.std.specs.Prelude.{◌≡◌, IfOk, OnOk, IsPermutation, IsSorted, length, nat_le};
 ghost use Rattle.std.specs.Option.{option_map};
 ghost use Rattle.std.specs.FinMap.{get};
 ghost use Rattle.std.specs.Ordering.{nat_cmp};
@@ -13,8 +13,8 @@ ghost use Rattle.ct_entry.specs.Keys.{prefix_of};
 ghost use Rattle.th_graph.specs.Pairs.{has_term_pair, term_pair};
 ghost use Rattle.th_graph.specs.Relating.{has_preferred, is_known};
 ghost use Rattle.th_store.specs.Rules.{thesaurus_limit};
-ghost use Rattle.th_store.specs.Sees.{AreNames, HoldsThesauri, SeesThesauri, SeesThesaurus, has_thesaurus, is_at_pair_limit, is_at_thesaurus_limit};
-ghost use Rattle.th_store.specs.Thesauri.{Thesauri, PairSet, pairs_of};
+ghost use Rattle.th_store.specs.Sees.{AreNames, OfThesaurus, SeesThesauri, SeesThesaurus, has_thesaurus, is_at_pair_limit, is_at_thesaurus_limit};
+ghost use Rattle.th_store.specs.Thesauri.{pairs_of};
 
 use crate::reading::thesaurus_in;
 use crate::spelling::{first_bytes, pair_bytes};
@@ -111,7 +111,7 @@ pub fn is_at_thesaurus_limit<K: Keeper>(alloc: Global, keeper: &mut K) -> Result
 /// Whether a thesaurus has as many pairs as it may have, which is 10,000. The keeper counts them, and no entry is looked up.
 pub fn is_at_pair_limit<K: Keeper>(alloc: Global, keeper: &K, name: &Name) -> Result<bool, Memory>
     requires { (K.view keeper.now).ready }
-    ensures { Told K.view keeper.now (λ m. IfOk result (λ full. (ts : Thesauri) → HoldsThesauri m ts → (ps : PairSet) → get ts name.now ≡ Some ps → full ≡ is_at_pair_limit ps)) }
+    ensures { Told K.view keeper.now (λ m. IfOk result (λ full. OfThesaurus m name.now (λ ps. full ≡ is_at_pair_limit ps))) }
 {
     let count = entry_count(alloc, keeper, Kind::Relations, name)?;
     Ok(count >= PAIR_LIMIT as u64)

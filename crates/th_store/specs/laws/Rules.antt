@@ -40,15 +40,16 @@ term_is t s same is utf8 =
 
 -- ---- how many entries there are with one more
 
+at_most_more : (b : Bool) (n : ℕ) → cond b n (n + 1) ≤ n + 1
+at_most_more true n = omega arith
+at_most_more false n = omega arith
+
 count_more : {K X : Type 0} {R : K → K → Ordering} (total : IsTotalOrder R) (xs : FinMap R X) (k : K) (x : X) → length (entries (insert xs k x)) ≤ length (entries xs) + 1
 count_more total xs k x =
     let one = sym (len-entries (insert xs k x)) ∙ len-insert total xs k x in
+    let more = at_most_more (is_some (get xs k)) (len xs) in
     let all = len-entries xs in
-    go (is_some (get xs k)) one all
-  where
-    go : (b : Bool) → length (entries (insert xs k x)) ≡ cond b (len xs) (len xs + 1) → len xs ≡ length (entries xs) → length (entries (insert xs k x)) ≤ length (entries xs) + 1
-    go true one all = omega (arith, one, all)
-    go false one all = omega (arith, one, all)
+    omega (arith, one, more, all)
 
 -- and with another value of one that is there
 count_same : {X : Type 0} (xs : Names X) (name : List ℕ) (x y : X) → get xs name ≡ Some y → length (entries (insert xs name x)) ≡ length (entries xs)
@@ -56,20 +57,20 @@ count_same xs name x y is = sym (len-entries (insert xs name x)) ∙ len-insert 
 
 -- ---- the names with another thesaurus
 
+-- what holds of each name with its thesaurus, and of the one that is put
+with_put : (P : List ℕ → PairSet → Type 0) (ts : Thesauri) (name : List ℕ) (ps : PairSet) → P name ps → ((n : List ℕ) (qs : PairSet) → get ts n ≡ Some qs → P n qs) → (n : List ℕ) (qs : PairSet) → get (insert ts name ps) n ≡ Some qs → P n qs
+with_put P ts name ps here others n qs has = go (same_list n name) refl (sym (get_name-insert ts name ps n) ∙ has)
+  where
+    go : (b : Bool) → same_list n name ≡ b → cond b (Some ps) (get ts n) ≡ Some qs → P n qs
+    go true same is = let e : ps ≡ qs = cc in subst (λ (x : List ℕ). P x qs) (sym (list_from_same n name same)) (subst (P name) e here)
+    go false other is = others n qs is
+
 stay : (ts : Thesauri) (name : List ℕ) (ps : PairSet) → AreThesauri ts → IsName name → IsThesaurus ps → length (entries (insert ts name ps)) ≤ thesaurus_limit → AreThesauri (insert ts name ps)
 stay ts name ps are named is few = record {
-  names = λ n qs has. to_name n (same_list n name) refl qs (sym (get_name-insert ts name ps n) ∙ has);
-  each = λ n qs has. to_rule n (same_list n name) qs (sym (get_name-insert ts name ps n) ∙ has);
+  names = with_put (λ n qs. IsName n) ts name ps named are.names;
+  each = with_put (λ n qs. IsThesaurus qs) ts name ps is are.each;
   few = few;
 }
-  where
-    to_name : (n : List ℕ) (b : Bool) → same_list n name ≡ b → (qs : PairSet) → cond b (Some ps) (get ts n) ≡ Some qs → IsName n
-    to_name n true same qs has = subst IsName (sym (list_from_same n name same)) named
-    to_name n false same qs has = are.names n qs has
-
-    to_rule : (n : List ℕ) (b : Bool) (qs : PairSet) → cond b (Some ps) (get ts n) ≡ Some qs → IsThesaurus qs
-    to_rule n true qs has = let e : ps ≡ qs = cc in subst IsThesaurus e is
-    to_rule n false qs has = are.each n qs has
 
 none_some : {X : Type 0} (o : Option X) → o ≡ None → IsSome o → ⊥
 none_some None e h = false≢true h
