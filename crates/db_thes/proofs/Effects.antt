@@ -101,10 +101,10 @@ module _ (m : StoreState) (args : List Arg) where
   abbrev pub relate_on : Option PairSet → Option (List ℕ) → Option StatedRelation → Effect
   relate_on found name s = with_found s BadValue (λ (s : StatedRelation). of_both name found (related s m))
 
-  pub relate_as : (name unknown taken : Option (List ℕ)) (s : Option StatedRelation) (there known shaped : Bool) → there ≡ is_some (get_named m.thesauri name) → unknown ≡ missing_name there name → known ≡ is_known_in (get_named m.thesauri name) s → taken ≡ taken_term known s → shaped ≡ are_texts 4 args
+  pub relate_as : (name unknown taken : Option (List ℕ)) (s : Option StatedRelation) (there known shaped : Bool) → there ≡ is_some (get_named m.thesauri name) → (there ≡ is_some (get_named m.thesauri name) → known ≡ is_known_in (get_named m.thesauri name) s) → unknown ≡ missing_name there name → taken ≡ taken_term known s → shaped ≡ are_texts 4 args
       → create_relation m name s args ≡ check unknown taken shaped (relate_on (get_named m.thesauri name) name s)
-  relate_as name unknown taken s there known shaped there_is unknown_is known_is taken_is shaped_is =
+  relate_as name unknown taken s there known shaped there_is known_is unknown_is taken_is shaped_is =
       let by_name : missing_name (is_some (get_named m.thesauri name)) name ≡ unknown = ap (λ (b : Bool). missing_name b name) (sym there_is) ∙ sym unknown_is in
-      let by_relation : taken_term (is_known_in (get_named m.thesauri name) s) s ≡ taken = ap (λ (b : Bool). taken_term b s) (sym known_is) ∙ sym taken_is in
+      let by_relation : taken_term (is_known_in (get_named m.thesauri name) s) s ≡ taken = ap (λ (b : Bool). taken_term b s) (sym (known_is there_is)) ∙ sym taken_is in
       let by_args : are_texts 4 args ≡ shaped = sym shaped_is in
       λ i. check (by_name i) (by_relation i) (by_args i) (relate_on (get_named m.thesauri name) name s)

@@ -1,9 +1,10 @@
 -- What CTX_THES.CREATE_RELATION does.
-use Rattle.std.specs.Prelude.{ℕ, ◌≡◌, Bool, true, false, not, List, [], ◌∷◌, is_some, Option, Some, None, Result, codes, refl}
+use Rattle.std.specs.Prelude.{ℕ, ◌≡◌, Bool, true, false, not, List, [], ◌∷◌, is_some, Option, Some, None, Result, Ok, IfOk, codes, refl}
 use Rattle.std.specs.FinMap.{get, get-empty}
 use Rattle.std.specs.Ordering.{nat_cmp}
 use Rattle.std.specs.Cmp.Lexicographic.{slice_cmp}
 use Rattle.std.proofs.Common.{ap}
+use Rattle.ct_keep.specs.declared.keepers.KeepFault.{KeepFault}
 use Rattle.st_parse.specs.declared.statements.Arg.{Arg}
 use Rattle.st_parse.specs.declared.statements.Arg.TheVariants.{Text}
 use Rattle.th_graph.specs.Pairs.{stated_pair}
@@ -27,6 +28,10 @@ is_known_in None s = false
 is_known_in (Some ps) None = false
 is_known_in (Some ps) (Some s) = is_known s.relation s.first s.second (pairs_of ps)
 
+-- what is known of what is stated, in the thesaurus of a name, by one who was told whether this is there
+abbrev pub TellsIfKnown : Bool → StoreState → Option (List ℕ) → Option StatedRelation → Result Bool KeepFault → Type 0
+TellsIfKnown there m name s result = there ≡ is_some (get_named m.thesauri name) → IfOk result (λ known. known ≡ is_known_in (get_named m.thesauri name) s)
+
 -- the thesaurus with the relation, where there is room for a pair more
 abbrev pub related : StatedRelation → StoreState → List ℕ → PairSet → Effect
 related s m name ps = refuse (is_at_pair_limit ps) LimitReached (Does (record m { thesauri = with_pair m.thesauri name (stated_pair s.relation s.first s.second) }) call_done)
@@ -48,6 +53,9 @@ PlansRelation result name s full =
     (ps : PairSet) → PlansWhere result (λ m. (get m.thesauri name ≡ Some ps) × (full ≡ is_at_pair_limit ps) × (is_known s.relation s.first s.second (pairs_of ps) ≡ false)) (λ m. related s m name ps)
 
 -- computed examples
+of_no_name : (m : StoreState) (s : StatedRelation) → TellsIfKnown false m None (Some s) (Ok false)
+of_no_name m s told = refl
+
 no_thesaurus : (s : Option StatedRelation) (args : List Arg) → create_relation empty_state (Some (codes "th")) s args ≡ Refused (UnknownName (codes "th"))
 no_thesaurus s args = ap (λ (o : Option PairSet). relate_by o empty_state (Some (codes "th")) s args) (get-empty (slice_cmp nat_cmp) (codes "th"))
 

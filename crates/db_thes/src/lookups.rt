@@ -1,12 +1,12 @@
 //! What the procedures ask of the thesauri.
 #![tactic(auto, using(ct_keep::specs::laws::Composing::reads_on, ct_keep::specs::laws::Composing::reads_short))]
 
-ghost use Rattle.std.specs.Prelude.{◌≡◌, IfOk, is_some};
+ghost use Rattle.std.specs.Prelude.{◌≡◌, is_some};
 ghost use Rattle.ct_keep.specs.KeeperViews.{OnlyReads};
 ghost use Rattle.th_store.specs.Sees.{is_at_thesaurus_limit as thesauri_at_limit};
 ghost use Rattle.db_state.specs.States.{OverStates, Sees};
 ghost use Rattle.db_call.specs.Checks.{get_named};
-ghost use Rattle.db_thes.specs.Relating.{is_known_in as known_there};
+ghost use Rattle.db_thes.specs.Relating.{TellsIfKnown};
 
 use crate::stating::StatedRelation;
 use ct_base::Name;
@@ -48,7 +48,7 @@ pub(crate) fn is_known_in<K: Keeper>(
     stated: &Option<StatedRelation>,
 ) -> Result<bool, KeepFault>
     requires { (K.view keeper.old).ready }
-    ensures known { OverStates K.view keeper.old (λ m c. there ≡ is_some (get_named m.thesauri name.now) → IfOk result (λ known. known ≡ known_there (get_named m.thesauri name.now) stated.now)) }
+    ensures known { OverStates K.view keeper.old (λ m c. TellsIfKnown there m name.now stated.now result) }
     ensures reads { OnlyReads K.view keeper.old keeper.new result }
 {
     if !there {
