@@ -1,11 +1,11 @@
 -- Keys in order rise and stand once each, and are the keys that were put.
 use Rattle.std.proofs.Common.{◌≡◌, ◌≤◌, ℕ, Bool, true, false, cond, List, [], ◌∷◌, length, refl, sym, ap, ◌∙◌, arith, subst}
-use Rattle.std.specs.Prelude.{◌||◌, ◌==◌}
+use Rattle.std.specs.Prelude.{◌&&◌, ◌||◌, ◌==◌}
 use Rattle.std.specs.List.{insert, list_all}
 use Rattle.std.specs.Str.{bytes_eq}
-use Rattle.std.proofs.lemmas.Bool.{or_parts, and_parts, and_from, leb-true}
-use Rattle.tx_stop.specs.StopKeys.{is_stop, key_place, with_key}
-use Rattle.tx_stop.specs.laws.RisingKeys.{lt, put, put_is, has_put, there_already, above, put_all}
+use Rattle.std.proofs.lemmas.Bool.{and_parts, leb-true}
+use Rattle.tx_stop.specs.StopKeys.{is_stop, key_place, keys_rise, with_key}
+use Rattle.tx_stop.specs.laws.RisingKeys.{lt, put, put_is, has_put, there_already, put_all, put_rises}
 use Rattle.q_tree.specs.Soundness.{is_key, slot_keys_rise}
 use Rattle.q_reduce.specs.Reducing.{in_order}
 
@@ -20,33 +20,18 @@ with_cases P key ks old more = go (length key == 0) (is_stop ks key) refl
 
 -- ---- rising
 
--- the key k before what begins with l, or with the new key
-behind : (b : Bool) (k key l : List ℕ) (ks : List (List ℕ)) → lt k key ≡ true → lt k l ≡ true → slot_keys_rise (cond b (l ∷ put key ks) (key ∷ l ∷ ks)) ≡ true → slot_keys_rise (k ∷ cond b (l ∷ put key ks) (key ∷ l ∷ ks)) ≡ true
-behind true k key l ks less next h = and_from _ _ next h
-behind false k key l ks less next h = and_from _ _ less h
-
-one_step : (b : Bool) (k key : List ℕ) → lt k key ≡ b → bytes_eq k key ≡ false → slot_keys_rise (cond b (k ∷ key ∷ []) (key ∷ k ∷ [])) ≡ true
-one_step true k key less other = and_from _ _ less refl
-one_step false k key less other = and_from _ _ (above k key less other) refl
-
-more_step : (b : Bool) (k key l : List ℕ) (ks : List (List ℕ)) → lt k key ≡ b → bytes_eq k key ≡ false → lt k l ≡ true → slot_keys_rise (l ∷ ks) ≡ true → slot_keys_rise (put key (l ∷ ks)) ≡ true
-    → slot_keys_rise (cond b (k ∷ put key (l ∷ ks)) (key ∷ k ∷ l ∷ ks)) ≡ true
-more_step true k key l ks less other next h later = behind (lt l key) k key l ks less next later
-more_step false k key l ks less other next h later = and_from _ _ (above k key less other) (and_from _ _ next h)
-
-put_rises : (key : List ℕ) (ks : List (List ℕ)) → slot_keys_rise ks ≡ true → is_stop ks key ≡ false → slot_keys_rise (put key ks) ≡ true
-put_rises key [] h none = refl
-put_rises key (k ∷ []) h none = let others = or_parts (bytes_eq k key) false none in one_step (lt k key) k key refl others.0
-put_rises key (k ∷ l ∷ ks) h none =
-    let parts = and_parts (lt k l) (slot_keys_rise (l ∷ ks)) h in
-    let others = or_parts (bytes_eq k key) (is_stop (l ∷ ks) key) none in
-    more_step (lt k key) k key l ks refl others.0 parts.0 parts.1 (put_rises key (l ∷ ks) parts.1 others.1)
+-- the keys of a slot rise where keys do
+rise_as_keys : (ks : List (List ℕ)) → slot_keys_rise ks ≡ keys_rise ks
+rise_as_keys [] = refl
+rise_as_keys (k ∷ []) = refl
+rise_as_keys (k ∷ l ∷ ks) = ap (λ (b : Bool). lt k l && b) (rise_as_keys (l ∷ ks))
 
 pub keys_in_order_rise : (keys : List (List ℕ)) → slot_keys_rise (in_order keys) ≡ true
 keys_in_order_rise [] = refl
 keys_in_order_rise (key ∷ keys) =
     let rest = keys_in_order_rise keys in
-    with_cases (λ ks. slot_keys_rise ks ≡ true) key (in_order keys) rest (put_rises key (in_order keys) rest)
+    with_cases (λ ks. slot_keys_rise ks ≡ true) key (in_order keys) rest
+    (λ none. rise_as_keys (put key (in_order keys)) ∙ put_rises key (in_order keys) (sym (rise_as_keys (in_order keys)) ∙ rest) none)
 
 -- ---- a property of all keys
 

@@ -2,7 +2,8 @@
 
 ghost use Rattle.std.specs.Prelude.{◌≡◌, IfOk};
 ghost use Rattle.std.specs.Option.{option_map};
-ghost use Rattle.q_tree.specs.ReducedQueries.{reduced_of, Both, Weight, Above, Within};
+ghost use Rattle.q_tree.specs.ReducedQueries.{reduced_of, Both};
+ghost use Rattle.q_reduce.specs.Operators.{reduced_around};
 ghost use Rattle.q_reduce.specs.Reducing.{near_query, define_query, both_query, right_alone, term};
 
 use ct_base::{Listed, Memory};
@@ -62,46 +63,34 @@ pub(crate) fn both_query(
     }
 }
 
-/// The part with a weight in tenths.
-pub(crate) fn weight_query(
-    alloc: Global,
-    tenths: u8,
-    a: Option<Flat>,
-) -> Result<Option<Flat>, Memory>
-    ensures { IfOk result (λ q. option_map reduced_of q ≡ option_map (Weight tenths) (option_map reduced_of a)) }
-{
-    match a {
-        None => Ok(None),
-        Some(a) => Ok(Some(Flat::Weight(tenths, Box::new(alloc, a)?))),
-    }
+/// What stands around a part.
+#[derive(Drop)]
+pub(crate) enum Around {
+    /// A weight in tenths.
+    Weight(u8),
+    /// A number that the score has to be above.
+    Above(u8),
+    /// A place in which the part is looked for.
+    Within(Place),
 }
 
-/// The part, where its score is above the number.
-pub(crate) fn above_query(
+/// The part with what stands around it, unless it is nothing.
+pub(crate) fn around_query(
     alloc: Global,
-    number: u8,
+    around: Around,
     a: Option<Flat>,
 ) -> Result<Option<Flat>, Memory>
-    ensures { IfOk result (λ q. option_map reduced_of q ≡ option_map (Above number) (option_map reduced_of a)) }
+    ensures { IfOk result (λ q. option_map reduced_of q ≡ option_map (reduced_around around) (option_map reduced_of a)) }
 {
-    match a {
-        None => Ok(None),
-        Some(a) => Ok(Some(Flat::Above(number, Box::new(alloc, a)?))),
-    }
-}
-
-/// The part, looked for in a place.
-pub(crate) fn within_query(
-    alloc: Global,
-    place: Place,
-    a: Option<Flat>,
-) -> Result<Option<Flat>, Memory>
-    ensures { IfOk result (λ q. option_map reduced_of q ≡ option_map (Within place) (option_map reduced_of a)) }
-{
-    match a {
-        None => Ok(None),
-        Some(a) => Ok(Some(Flat::Within(place, Box::new(alloc, a)?))),
-    }
+    let Some(a) = a else {
+        return Ok(None);
+    };
+    let a = Box::new(alloc, a)?;
+    Ok(Some(match around {
+        Around::Weight(tenths) => Flat::Weight(tenths, a),
+        Around::Above(number) => Flat::Above(number, a),
+        Around::Within(place) => Flat::Within(place, a),
+    }))
 }
 
 /// Operands near one another. One that is left is itself.

@@ -5,7 +5,7 @@ ghost use Rattle.std.specs.List.{list_all, flat_map};
 ghost use Rattle.q_tree.specs.Limits.{word_keeps_limit, leaf_keeps_limits, leaves_keep_limits};
 ghost use Rattle.q_reduce.specs.Faults.{place_faults, leaf_faults, leaves_faults, operands_faults};
 ghost use Rattle.q_reduce.specs.Reducing.{end_dropped, front_dropped, kept_operands, leaf_phrases, operand_phrases, phrases_of_slots, place_slots, trimmed};
-ghost use Rattle.q_reduce.specs.Results.{Answers, PutsMore, context_of};
+ghost use Rattle.q_reduce.specs.Results.{Answers, PutsLeaf, PutsMore, context_of};
 ghost use Rattle.q_tree.specs.Soundness.{takes_some};
 ghost use Rattle.std.specs.Prelude.{IfOk, OnOk};
 
@@ -111,7 +111,7 @@ fn put_leaf(
     leaf: &Leaf,
 ) -> Result<(), ReduceFault>
     requires { leaf_keeps_limits leaf.now ≡ true }
-    ensures { PutsMore result (leaf_faults (context_of ctx.now) leaf.now) phrases.old.items phrases.new.items (leaf_phrases (context_of ctx.now) leaf.now) }
+    ensures { PutsLeaf result (context_of ctx.now) leaf.now phrases.old.items phrases.new.items }
 {
     match leaf {
         Leaf::Phrase(places) => {

@@ -12,9 +12,7 @@ ghost use Rattle.q_reduce.specs.Reducing.{near_query, define_query, kept_operand
 ghost use Rattle.q_reduce.specs.Results.{Reduces, context_of};
 
 use crate::faults::ReduceFault;
-use crate::operators::{
-    above_query, both_query, define_query, near_query, term, weight_query, within_query,
-};
+use crate::operators::{Around, around_query, both_query, define_query, near_query, term};
 use crate::phrases::{leaf_phrases, operand_phrases, operands};
 use crate::sections::section;
 use crate::thesauri::NamedThesaurus;
@@ -87,10 +85,12 @@ fn reduce_part(
             Ok(both_query(alloc, Op::Minus, a, b)?)
         }
         Query::Weight(tenths, a) => {
-            Ok(weight_query(alloc, *tenths, reduce_part(alloc, a, ctx, inside)?)?)
+            let a = reduce_part(alloc, a, ctx, inside)?;
+            Ok(around_query(alloc, Around::Weight(*tenths), a)?)
         }
         Query::Above(number, a) => {
-            Ok(above_query(alloc, *number, reduce_part(alloc, a, ctx, inside)?)?)
+            let a = reduce_part(alloc, a, ctx, inside)?;
+            Ok(around_query(alloc, Around::Above(*number), a)?)
         }
         Query::Near {
             operands,
@@ -100,7 +100,7 @@ fn reduce_part(
         Query::Within(name, a) => {
             let a = reduce_part(alloc, a, ctx, true)?;
             let place = section(ctx.group, name, inside)?;
-            Ok(within_query(alloc, place, a)?)
+            Ok(around_query(alloc, Around::Within(place), a)?)
         }
         Query::Define(leaves, sum) => reduce_define(alloc, ctx, leaves.as_slice(), sum.as_slice()),
     }

@@ -1,13 +1,12 @@
 //! Operators of thesauri.
 
-ghost use Rattle.std.specs.Prelude.{◌≡◌, ◌++◌, true, IfOk, OnOk};
-ghost use Rattle.std.specs.List.{flat_map, list_all};
+ghost use Rattle.std.specs.Prelude.{◌≡◌, ◌++◌, IfOk, OnOk};
+ghost use Rattle.std.specs.List.{flat_map};
 ghost use Rattle.std.specs.Option.{option_map};
 ghost use Rattle.std.specs.String.{string_bytes};
-ghost use Rattle.q_tree.specs.Limits.{word_keeps_limit};
-ghost use Rattle.q_reduce.specs.Faults.{expansion_faults, operator_faults};
-ghost use Rattle.q_reduce.specs.Reducing.{blank_before, operator_phrases, operator_terms, term_phrases, slots_of_term, thesaurus_named, words_text};
-ghost use Rattle.q_reduce.specs.Results.{Answers, PutsMore, context_of, named_pairs};
+ghost use Rattle.q_tree.specs.declared.queries.Leaf.TheVariants.{Thes};
+ghost use Rattle.q_reduce.specs.Reducing.{blank_before, operator_terms, term_phrases, slots_of_term, thesaurus_named, words_text};
+ghost use Rattle.q_reduce.specs.Results.{AnswersTerms, PutsLeaf, context_of, named_pairs};
 
 use crate::faults::ReduceFault;
 use crate::phrases::put_trimmed;
@@ -72,7 +71,7 @@ fn operator_terms(
     level: u8,
     words: &[Word],
 ) -> Result<Vec<Term>, ReduceFault>
-    ensures { Answers result (expansion_faults (operator_terms thesaurus.now relation level words.now)) (λ v. v.items ≡ operator_terms thesaurus.now relation level words.now) }
+    ensures { AnswersTerms result (operator_terms thesaurus.now relation level words.now) }
 {
     let text = words_text(alloc, words)?;
     let Some(term) = Term::of(alloc, text.as_str())? else {
@@ -123,7 +122,7 @@ pub(crate) fn put_operator(
     level: u8,
     name: &Name,
 ) -> Result<(), ReduceFault>
-    ensures { PutsMore result (operator_faults (thesaurus_named name.now (context_of ctx.now).thesauri) relation level words.now name.now) phrases.old.items phrases.new.items (operator_phrases (context_of ctx.now) (thesaurus_named name.now (context_of ctx.now).thesauri) relation level words.now) }
+    ensures { PutsLeaf result (context_of ctx.now) (Thes relation words.now level name.now) phrases.old.items phrases.new.items }
 {
     let Some(thesaurus) = thesaurus_named(ctx.thesauri, name) else {
         return Err(ReduceFault::NoThesaurus(name.clone()?));
