@@ -102,10 +102,10 @@ fn score(alloc: Global, text: &[u8]) -> Result<u32, Fail> {
 
 /// The score of the document 1 among those that a query scores; 0 where it isn't among them.
 fn score_of_1(scored: &[(u32, u32)]) -> u32 {
-    match scored {
-        [(1, score), ..] => *score,
-        _ => 0,
-    }
+    let [first, ..] = scored else {
+        return 0;
+    };
+    if first.0 == 1 { first.1 } else { 0 }
 }
 
 #[test]
