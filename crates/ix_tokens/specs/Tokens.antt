@@ -74,4 +74,4 @@ none_held m i p all are holds = (are (λ stream token. []) holds).each
 
 cafe_has : HasPattern (Chars (codes "caf") ∷ Many ∷ []) (codes "cafe")
 unfolding chars encode
-cafe_has = record { is = record { some = omega arith; short = omega arith }; text = (codes "cafe", refl, refl); matches = refl }
+cafe_has = record { is = record { some = omega arith; short = omega arith }; text = (codes "cafe", (refl, refl)); matches = refl }
