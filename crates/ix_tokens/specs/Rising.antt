@@ -30,4 +30,4 @@ two_lists_rise : EachRises (((at_one 5 ∷ []) ∷ []) ∷ ((at_one 2 ∷ []) �
 two_lists_rise = ((omega arith, omega arith, omega arith, omega arith, (omega arith, omega arith, tt), tt), ((omega arith, omega arith, omega arith, omega arith, (omega arith, omega arith, tt), tt), tt))
 
 they_must_in_a_list : EachRises (((at_one 5 ∷ []) ∷ (at_one 2 ∷ []) ∷ []) ∷ []) → ⊥
-they_must_in_a_list rise = let less : 5 < 2 = rise.0.1.1.1.1.1.0 in absurd (omega (arith, less))
+they_must_in_a_list rise = let less : 5 < 2 = rise.0.5.0 in absurd (omega (arith, less))
