@@ -1,0 +1,4 @@
+pub mod Sets
+pub mod Columns
+pub mod SetPromises
+pub mod laws
