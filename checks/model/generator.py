@@ -17,7 +17,7 @@ from documents import Group, SectionKind, document
 from lexemes import KEYWORDS
 from model import STATEMENT_LIMIT, answer
 from preferences import ATTRIBUTES, FLAGS, SET_LIMIT, SETS, SINGLES, WITHOUT_EFFECT
-from procedures import FIELD_LIMIT, LIST_LIMIT, STOPWORD_LIMIT, STOPWORD_SIZE, TAG_LIMIT, ZONE_LIMIT
+from procedures import FIELD_LIMIT, LIST_LIMIT, STOPWORD_LIMIT, STOPWORD_SIZE, SUB_INDEX_LIMIT, TAG_LIMIT, ZONE_LIMIT
 from query_maker import QueryMaker
 from state import Column, Index, State, Table, Value
 from statements import TABLE_LIMIT
@@ -32,8 +32,10 @@ from vocabulary import (
     ENDS,
     GROUPS,
     INDEXES,
+    INDEX_SETS,
     JOINS,
     LOOKS_LIKE,
+    NO_COLUMNS,
     NO_JOINS,
     NO_NAMES,
     NO_STATEMENTS,
@@ -589,6 +591,25 @@ class Maker:
             visibility = [self.one_of(["1", "0", "'TRUE'", "'x'", "FALSE", "TRUE"])]
         return self.call("CTX_DDL", "ADD_FIELD_SECTION", [*arguments, *visibility])
 
+    def create_index_set(self) -> list[str]:
+        name = self.named(self.new(self.state.index_sets, INDEX_SETS))
+        its_type = [self.one_of(["'BASIC_INDEX_SET'", "''", "TRUE"])] if self.goes_wrong() else []
+        return self.call("CTX_DDL", "CREATE_INDEX_SET", [name, *its_type])
+
+    def add_index(self) -> list[str]:
+        """Adds a sub-index of one to three columns, at times the same ones again; where it goes wrong of more, or by a text that is no list."""
+        name = self.known(self.state.index_sets, INDEX_SETS)
+        count = self.random.choice([1, 1, 2, 2, 3, 4] if self.goes_wrong() else [1, 1, 2, 2, 3])
+        columns = [self.cased(self.one_of(STRANGE_NAMES[:8] if self.chance(0.05) else COLUMNS)) for _ in range(count)]
+        if self.goes_wrong():
+            columns[self.random.randrange(count)] = self.one_of(NO_COLUMNS)
+        return self.call("CTX_DDL", "ADD_INDEX", [self.named(name), quoted(",".join(map(self.with_blanks, columns)))])
+
+    def with_blanks(self, text: str) -> str:
+        """Returns a text with white space around it, at times."""
+        before, after = (self.one_of([" ", *WHITE_SPACE]) if self.chance(0.3) else "" for _ in range(2))
+        return before + text + after
+
     def create_thesaurus(self) -> list[str]:
         name = self.named(self.new(self.state.thesauri, THESAURI))
         flags = [self.one_of(["TRUE", "0", "'FALSE'", "''"]) if self.goes_wrong() else "FALSE"] if self.chance(0.3) else []
@@ -711,6 +732,8 @@ class Maker:
             (self.commit, 1),
             (self.no_statement, 2),
         ]
+        if "INDEX-SETS" in self.built:
+            kinds += [(self.create_index_set, 1 if self.state.index_sets else 3), (self.add_index, 5 if self.state.index_sets else 1)]
         if "THESAURI" in self.built:
             kinds += [(self.create_thesaurus, 1 if self.state.thesauri else 4), (self.create_relation, 12 if self.state.thesauri else 1)]
         if indexes and ("WILDCARDS" in self.built or self.state.thesauri):
@@ -774,6 +797,9 @@ class Maker:
             [*group, *fields, f"{zone}'t', 't')", f"{field}'s0', 't')", f"{field}'s0', 'u', TRUE)"],
             [*group, *(f"{zone}'s', 't{i}')" for i in range(TAG_LIMIT + 1)), f"{zone}'t', 't')", f"{zone}'s', 't0')"],
         ]
+        if "INDEX-SETS" in self.built:
+            sub_indexes = [f"EXEC CTX_DDL.ADD_INDEX('many', '{self.one_of(['id', 'price,id', 'c,b,a'])}')" for _ in range(SUB_INDEX_LIMIT + 1)]
+            ways += [[f"EXEC CTX_DDL.CREATE_INDEX_SET('many{i}')" for i in range(LIST_LIMIT + 1)], ["EXEC CTX_DDL.CREATE_INDEX_SET('many')", *sub_indexes]]
         if "THESAURI" in self.built:
             ways += [[f"EXEC CTX_THES.CREATE_THESAURUS('many{i}')" for i in range(LIST_LIMIT + 1)], self.many_terms()]
         statements = self.random.choice(ways)

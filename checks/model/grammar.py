@@ -9,11 +9,13 @@ from typing import TypeVar
 from lexemes import NotUnderstood, Whole, lexemes, whole
 from procedures import (
     AddFieldSection,
+    AddIndex,
     AddSpecialSection,
     AddStopword,
     AddZoneSection,
     Argument,
     Call,
+    CreateIndexSet,
     CreatePreference,
     CreateRelation,
     CreateSectionGroup,
@@ -56,6 +58,8 @@ PROCEDURES: dict[tuple[str, str], tuple[str | None, type[Call]]] = {
     ("ctx_ddl", "add_zone_section"): ("SECTION-GROUPS", AddZoneSection),
     ("ctx_ddl", "add_field_section"): ("SECTION-GROUPS", AddFieldSection),
     ("ctx_ddl", "add_special_section"): ("SECTION-GROUPS", AddSpecialSection),
+    ("ctx_ddl", "create_index_set"): ("INDEX-SETS", CreateIndexSet),
+    ("ctx_ddl", "add_index"): ("INDEX-SETS", AddIndex),
     ("ctx_ddl", "sync_index"): (None, SyncIndex),
     ("ctx_thes", "create_thesaurus"): ("THESAURI", CreateThesaurus),
     ("ctx_thes", "create_relation"): ("THESAURI", CreateRelation),

@@ -25,16 +25,18 @@ from statements import (
     printed,
     unknown,
 )
-from texts import DEFAULT_OPTIONS, ascii_lower, ascii_upper, tokens
+from texts import DEFAULT_OPTIONS, WHITE_SPACE, ascii_lower, ascii_upper, tokens
 from thesauri import PAIR_LIMIT, Pair, has, pair_of, term_of
 
-LIST_LIMIT = 256  # of preferences, of stoplists, of section groups and of thesauri
+LIST_LIMIT = 256  # of preferences, of stoplists, of section groups, of index sets and of thesauri
 STOPWORD_LIMIT = 4096
 STOPWORD_SIZE = 64
 ZONE_LIMIT = 64
 FIELD_LIMIT = 64
 TAG_LIMIT = 256
 SPECIALS = ("sentence", "paragraph")
+SUB_INDEX_LIMIT = 16
+SUB_COLUMN_LIMIT = 3
 
 DONE = "PL/SQL procedure successfully completed.\n"
 
@@ -69,9 +71,9 @@ class Call(Statement):
 
 
 class Create(Call):
-    """Makes something that has a name and a type."""
+    """Makes something that has a name, and a type where there are several."""
 
-    types: ClassVar[tuple[str, ...]]
+    types: ClassVar[tuple[str, ...]] = ()
     counts: ClassVar[tuple[int, ...]] = (2,)  # of arguments
 
     @abstractmethod
@@ -126,6 +128,17 @@ class CreateSectionGroup(Create):
 
     def effect(self, state: State) -> str:
         state.groups[self.name(0) or ""] = Group(is_null=self.type == "NULL_SECTION_GROUP")
+        return DONE
+
+
+class CreateIndexSet(Create):
+    counts = (1,)
+
+    def there(self, state: State) -> Mapping[str, object]:
+        return state.index_sets
+
+    def effect(self, state: State) -> str:
+        state.index_sets[self.name(0) or ""] = ()
         return DONE
 
 
@@ -250,6 +263,31 @@ class AddSpecialSection(Call):
     def effect(self, state: State) -> str:
         group = state.groups[self.name(0) or ""]
         state.groups[self.name(0) or ""] = replace(group, specials=group.specials | {self.special})
+        return DONE
+
+
+class AddIndex(Call):
+    """Adds a sub-index to an index set. Whether a table has its columns isn't looked up, and one may stand there twice."""
+
+    @property
+    def columns(self) -> tuple[str, ...] | None:
+        """Returns the columns in lower case, where the text is a list of names."""
+        columns = [column.strip(WHITE_SPACE) for column in (self.text(1) or "").split(",")]
+        return tuple(column.lower() for column in columns) if all(map(is_name, columns)) else None
+
+    def refusals(self, state: State) -> Refusals:
+        yield from self.unknown_name(0, state.index_sets)
+        if not self.has_texts(2):
+            yield WRONG_VALUES
+            return
+        if self.name(0) is None or self.columns is None:
+            yield BAD_VALUE
+        if len(self.columns or ()) > SUB_COLUMN_LIMIT or len(state.index_sets.get(self.name(0) or "", ())) >= SUB_INDEX_LIMIT:
+            yield LIMIT_REACHED
+
+    def effect(self, state: State) -> str:
+        assert self.columns is not None
+        state.index_sets[self.name(0) or ""] += (self.columns,)
         return DONE
 
 

@@ -238,6 +238,43 @@ Index created.
 EXEC CTX_DOC.POLICY_TOKENS('CTXSYS.DEFAULT_LEXER','a');
 E30: bad attribute or value
 """,
+    # what is added isn't looked up in any table, and may be there already; the text is read before any limit is asked for
+    "index sets and their sub-indexes": """\
+EXEC CTX_DDL.CREATE_INDEX_SET('iset');
+[ok]
+EXEC CTX_DDL.CREATE_INDEX_SET('ISET','x');
+E12: iset exists already
+EXEC CTX_DDL.CREATE_INDEX_SET('other','x');
+E13: wrong type or number of values
+EXEC CTX_DDL.CREATE_INDEX_SET('my set');
+E30: bad attribute or value
+EXEC CTX_DDL.ADD_INDEX('iset','price');
+[ok]
+EXEC CTX_DDL.ADD_INDEX('Iset',' Price,price ,
+id');
+[ok]
+EXEC CTX_DDL.ADD_INDEX('nope','a,b,c,d',1);
+E11: unknown name nope
+EXEC CTX_DDL.ADD_INDEX('iset','a,b,c,d',1);
+E13: wrong type or number of values
+EXEC CTX_DDL.ADD_INDEX('my set','price');
+E30: bad attribute or value
+EXEC CTX_DDL.ADD_INDEX('iset','price id');
+E30: bad attribute or value
+EXEC CTX_DDL.ADD_INDEX('iset','a,b,c,d,');
+E30: bad attribute or value
+EXEC CTX_DDL.ADD_INDEX('iset','');
+E30: bad attribute or value
+EXEC CTX_DDL.ADD_INDEX('iset','a,b,c,d');
+E31: limit reached
+"""
+    + 14 * "EXEC CTX_DDL.ADD_INDEX('iset','price');\n[ok]\n"
+    + """\
+EXEC CTX_DDL.ADD_INDEX('iset','price');
+E31: limit reached
+EXEC CTX_DDL.ADD_INDEX('iset','1');
+E30: bad attribute or value
+""",
     "scores are at most 100, and are weighed": table_of(" ".join(["quick"] * 101), "quick")
     + search("quick", "1|100", "2|1")
     + search("quick*0.1", "1|10", "2|1")

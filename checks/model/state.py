@@ -1,4 +1,4 @@
-"""The state that statements lead from and to: tables with their rows, preferences, thesauri, and indexes."""
+"""The state that statements lead from and to: tables with their rows, preferences, index sets, thesauri, and indexes."""
 
 from __future__ import annotations
 
@@ -14,6 +14,7 @@ TEXT_LIMIT = 4000
 
 Operand = str | int | Beyond
 Value = str | int
+SubIndexes = tuple[tuple[str, ...], ...]  # the columns of each, in order of adding
 
 
 @dataclass(frozen=True)
@@ -65,6 +66,7 @@ class State:
     preferences: dict[str, dict[str, str]] = field(default_factory=dict)  # the values of attributes
     stoplists: dict[str, frozenset[str]] = field(default_factory=dict)
     groups: dict[str, Group] = field(default_factory=dict)
+    index_sets: dict[str, SubIndexes] = field(default_factory=dict)
     thesauri: dict[str, Thesaurus] = field(default_factory=dict)
     indexes: dict[str, Index] = field(default_factory=dict)
 
@@ -72,7 +74,8 @@ class State:
         tables = {name: replace(table, rows=dict(table.rows)) for name, table in self.tables.items()}
         preferences = {name: dict(preference) for name, preference in self.preferences.items()}
         indexes = {name: replace(index, pending=set(index.pending), lost=list(index.lost)) for name, index in self.indexes.items()}
-        return State(tables, preferences, dict(self.stoplists), dict(self.groups), dict(self.thesauri), indexes)
+        lists = dict(self.stoplists), dict(self.groups), dict(self.index_sets), dict(self.thesauri)
+        return State(tables, preferences, *lists, indexes)
 
     def indexes_of(self, table: str) -> list[Index]:
         return [index for index in self.indexes.values() if index.table == table]

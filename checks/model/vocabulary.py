@@ -13,6 +13,7 @@ COLUMNS = ["id", "body", "price", "title", "note", "c" * 30, "n_2"]
 PREFERENCES = ["lx", "ly", "docs", "p" * 30, "p#1"]
 STOPLISTS = ["sl", "lx", "s" * 30]
 GROUPS = ["g", "h", "lx", "g" * 30]
+INDEX_SETS = ["iset", "lx", "docs", "i" * 30]
 SECTIONS = ["p", "q", "t", "z_1", "docs", "s" * 30]
 THESAURI = ["default", "th", "lx", "t" * 30]
 TAGS = ["p", "q", "t", "k", "h1", "a-b", "_x", "-", "1", "x" * 30]
@@ -52,6 +53,8 @@ PARAMETER_LISTS = ["LEXER lx", "STOPLIST CTXSYS.EMPTY_STOPLIST", "SECTION GROUP 
 PARAMETER_WORDS = [
     "LEXER", "SECTION", "GROUP", "nope", "CTXSYS.DEFAULT_LEXER", "CTXSYS.NULL_SECTION_GROUP", "CTXSYS . DEFAULT_LEXER", ",", "'lx'", "é",
 ]
+# lists of columns that are none: what stands between commas, and what stands in place of one
+NO_COLUMNS = ["", " ", "x" * 31, "1a", "price title", "price,", "é", "'id'", "price.id", "\u200b", "\x1c", "id;price", "(id)"]
 # arguments that are no names, or aren't spelt so
 NO_NAMES = ["''", "'no name'", "' di'", "'lx '", "1", "TRUE", "'é'", "'1a'", "'a-b'", "'CTXSYS.DEFAULT_LEXER'", "'" + "x" * 31 + "'"]
 BETWEEN_WORDS = [

@@ -6,7 +6,7 @@ from collections.abc import Iterable
 
 from documents import Group, Prefs, document
 from preferences import changed_options
-from state import Index, State, Table
+from state import Index, State, SubIndexes, Table
 from texts import KEY_LIMIT
 from thesauri import Thesaurus
 
@@ -50,6 +50,11 @@ def group_length(group: Group) -> int:
     """Returns the bytes of a group in a value: one each for its type and its flags, and its sections."""
     sections = ((section.name, list_length(map(text_length, section.tags))) for section in group.sections)
     return 1 + 1 + list_length(text_length(name) + 1 + tags for name, tags in sections)
+
+
+def sub_indexes_length(sub_indexes: SubIndexes) -> int:
+    """Returns the bytes of the sub-indexes of an index set in a value."""
+    return list_length(list_length(map(text_length, columns)) for columns in sub_indexes)
 
 
 # Postings
@@ -101,9 +106,10 @@ def thesaurus_weight(name: str, thesaurus: Thesaurus) -> int:
 
 
 def preferences_weight(state: State) -> int:
-    """Returns the weight of the entries of preferences, stoplists, section groups and thesauri."""
+    """Returns the weight of the entries of preferences, stoplists, section groups, index sets and thesauri."""
     weight = sum(entry_weight(1 + name_length(name), attributes_length(it)) for name, it in state.preferences.items())
     weight += sum(entry_weight(1 + name_length(name), list_length(map(text_length, it))) for name, it in state.stoplists.items())
+    weight += sum(entry_weight(1 + name_length(name), sub_indexes_length(it)) for name, it in state.index_sets.items())
     weight += sum(thesaurus_weight(name, it) for name, it in state.thesauri.items())
     return weight + sum(entry_weight(1 + name_length(name), group_length(it)) for name, it in state.groups.items())
 

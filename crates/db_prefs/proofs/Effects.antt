@@ -16,7 +16,7 @@ use Rattle.db_cond.specs.Faults.{BadValue}
 use Rattle.db_state.specs.States.{StoreState}
 use Rattle.db_state.specs.Effects.{Effect, Checks, refuse, with_found}
 use Rattle.db_state.specs.laws.Chains.{checked}
-use Rattle.db_prefs.specs.Defining.{add_section, add_special_section, add_stopword, among, are_new_args, attribute_set, create, has_stopword_length, is_null_type, is_there, is_type, new_made, of_other_kind, or_else, section_added, set_attribute, setting_of, special_added, special_of, stopword_added, taken_section, taken_special, taken_tag}
+use Rattle.db_prefs.specs.Defining.{add_section, add_special_section, add_stopword, add_sub_index, among, columns_told, are_new_args, attribute_set, create, has_stopword_length, is_null_type, is_there, is_type, new_made, of_other_kind, or_else, section_added, set_attribute, setting_of, special_added, special_of, stopword_added, sub_index_added, taken_section, taken_special, taken_tag}
 use Rattle.db_prefs.specs.declared.special_sections.Special.{Special}
 
 pub stopword_fresh : (taken word : Option (List ℕ)) (w : List ℕ) (found : Option (List (List ℕ))) (ws : List (List ℕ)) → taken ≡ among found word
@@ -37,6 +37,12 @@ section_fresh kind taken section tag s t found g is none found_is section_is tag
 
 abbrev pub settings_in : Vec Setting Global → List Setting
 settings_in v = v.items
+
+abbrev pub sets_in : Vec (List (List ℕ)) Global → List (List (List ℕ))
+sets_in v = v.items
+
+abbrev pub columns_in : Vec (List ℕ) Global → List (List ℕ)
+columns_in v = v.items
 
 module _ (m : StoreState) (args : List Arg) where
   -- after the first checks
@@ -73,6 +79,29 @@ module _ (m : StoreState) (args : List Arg) where
   attribute_passed name unknown attribute value read set there shaped fault read_is there_is unknown_is shaped_is attribute_is value_is set_is none checks =
       let done = attribute_on name (option_map settings_in read) set in
       attribute_as name unknown (option_map settings_in read) set shaped read_is (unknown_by settings_in read name unknown there there_is unknown_is) shaped_is (set_is ∙ (λ i. setting_of (attribute_is i) (value_is i)))
+      ∙ checked fault (check unknown None shaped done) done none (checks done)
+
+  abbrev pub sub_index_on : Option (List ℕ) → Option (List (List (List ℕ))) → Option (List (List ℕ)) → Effect
+  sub_index_on name found columns = with_found columns BadValue (λ (columns : List (List ℕ)). of_both name found (sub_index_added columns m))
+
+  sub_index_as : (name unknown : Option (List ℕ)) (found : Option (List (List (List ℕ)))) (columns : Option (List (List ℕ))) (shaped : Bool)
+      → found ≡ get_named m.preferences.sets name → unknown ≡ missing_name (is_some found) name → shaped ≡ are_texts 2 args
+      → columns ≡ columns_told (argument_text 1 args) → add_sub_index m name args ≡ check unknown None shaped (sub_index_on name found columns)
+  sub_index_as name unknown found columns shaped read unknown_is shaped_is columns_is =
+      let by_found : get_named m.preferences.sets name ≡ found = sym read in
+      let by_name : missing_name (is_some (get_named m.preferences.sets name)) name ≡ unknown = ap (λ (f : Option (List (List (List ℕ)))). missing_name (is_some f) name) by_found ∙ sym unknown_is in
+      let by_args : are_texts 2 args ≡ shaped = sym shaped_is in
+      let by_columns : columns_told (argument_text 1 args) ≡ columns = sym columns_is in
+      λ i. check (by_name i) None (by_args i) (sub_index_on name (by_found i) (by_columns i))
+
+  -- where the first checks found no fault
+  pub sub_index_passed : (name unknown text : Option (List ℕ)) (read : Option (Vec (List (List ℕ)) Global)) (columns : Option (Vec (List ℕ) Global)) (there shaped : Bool) (fault : Option Fault)
+      → option_map sets_in read ≡ get_named m.preferences.sets name → there ≡ is_some read → unknown ≡ missing_name there name → shaped ≡ are_texts 2 args
+      → text ≡ argument_text 1 args → option_map columns_in columns ≡ columns_told text → fault ≡ None → ((done : Effect) → Checks fault (check unknown None shaped done) done)
+      → add_sub_index m name args ≡ sub_index_on name (option_map sets_in read) (option_map columns_in columns)
+  sub_index_passed name unknown text read columns there shaped fault read_is there_is unknown_is shaped_is text_is columns_is none checks =
+      let done = sub_index_on name (option_map sets_in read) (option_map columns_in columns) in
+      sub_index_as name unknown (option_map sets_in read) (option_map columns_in columns) shaped read_is (unknown_by sets_in read name unknown there there_is unknown_is) shaped_is (columns_is ∙ ap columns_told text_is)
       ∙ checked fault (check unknown None shaped done) done none (checks done)
 
   abbrev pub stopword_on : Option (List ℕ) → Option (List (List ℕ)) → Option (List ℕ) → Effect

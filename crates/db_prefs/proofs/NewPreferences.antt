@@ -1,4 +1,4 @@
--- The state after a preference, a stoplist or a section group has got another value, or is new.
+-- The state after a preference, a stoplist, a section group or an index set has got another value, or is new.
 use Rattle.std.proofs.Common.{◌≡◌, ℕ, ◌<◌, Bool, true, false, List, [], length, Option, Some, refl, sym, subst, ◌∙◌}
 use Rattle.std.specs.Prelude.{nat_le}
 use Rattle.std.specs.FinMap.{get, insert, entries}
@@ -18,13 +18,14 @@ use Rattle.ix_indexes.specs.Indexes.{kinds, IndexesStand}
 use Rattle.tx_tags.specs.Groups.{SectionGroup as Group, no_sections}
 use Rattle.tx_settings.specs.declared.attributes.Setting.{Setting}
 use Rattle.tx_settings.specs.PrefsBytes.{is_named_group, are_lexer_settings}
+use Rattle.tx_sets.specs.Sets.{is_index_set}
 use Rattle.tx_prefs.specs.declared.kinds.PrefKind.{PrefKind}
-use Rattle.tx_prefs.specs.declared.kinds.PrefKind.TheVariants.{Lexer, Stoplist, SectionGroup}
-use Rattle.tx_prefs.specs.Preferences.{Preferences, with_lexer, with_stoplist, with_group}
-use Rattle.tx_prefs.specs.Spelling.{PreferencesStand, lexer_changes, stoplist_changes, group_changes}
+use Rattle.tx_prefs.specs.declared.kinds.PrefKind.TheVariants.{Lexer, Stoplist, SectionGroup, IndexSet}
+use Rattle.tx_prefs.specs.Preferences.{Preferences, with_lexer, with_stoplist, with_group, with_index_set}
+use Rattle.tx_prefs.specs.Spelling.{PreferencesStand, lexer_changes, stoplist_changes, group_changes, set_changes}
 use Rattle.tx_prefs.specs.Rules.{AreNamed, ArePreferences, are_stopwords, preference_limit}
 use Rattle.tx_prefs.specs.Sees.{is_kind_full}
-use Rattle.tx_prefs.specs.laws.Changes.{is_of_preferences, lexer_stands, stoplist_stands, group_stands}
+use Rattle.tx_prefs.specs.laws.Changes.{is_of_preferences, lexer_stands, stoplist_stands, group_stands, set_stands}
 use Rattle.tx_prefs.specs.laws.Rules.{named_more, named_again}
 use Rattle.th_store.specs.laws.Changes.{thesauri_unchanged}
 use Rattle.db_state.specs.laws.ShortRows.{rows_frame}
@@ -39,24 +40,28 @@ preferences_built : (k : Kind) → is_built k ≡ false → is_of_preferences k 
 preferences_built kind.Preferences h = cc
 preferences_built kind.Stoplists h = cc
 preferences_built kind.SectionGroups h = cc
+preferences_built kind.IndexSets h = cc
 preferences_built k h = refl
 
 rows_preferences : (k : Kind) → is_of_rows k ≡ true → is_of_preferences k ≡ false
 rows_preferences kind.Preferences h = cc
 rows_preferences kind.Stoplists h = cc
 rows_preferences kind.SectionGroups h = cc
+rows_preferences kind.IndexSets h = cc
 rows_preferences k h = refl
 
 tables_preferences : (k : Kind) → is_of_tables k ≡ true → is_of_preferences k ≡ false
 tables_preferences kind.Preferences h = cc
 tables_preferences kind.Stoplists h = cc
 tables_preferences kind.SectionGroups h = cc
+tables_preferences kind.IndexSets h = cc
 tables_preferences k h = refl
 
 indexes_preferences : (k : Kind) → is_of_indexes k ≡ true → is_of_preferences k ≡ false
 indexes_preferences kind.Preferences h = cc
 indexes_preferences kind.Stoplists h = cc
 indexes_preferences kind.SectionGroups h = cc
+indexes_preferences kind.IndexSets h = cc
 indexes_preferences k h = refl
 
 -- ---- other preferences
@@ -91,19 +96,25 @@ module _ (c : Content) (m : StoreState) (name : List ℕ) (stands : StandsForSta
       → StandsForState (after (spell (lexer_changes name settings)) c) (record m { preferences = with_lexer m.preferences name settings })
   lexer_put settings is_name are =
       preferences_stand c m (with_lexer m.preferences name settings) (lexer_changes name settings) stands (refl, tt) (record { owner = is_name; part = refl }, tt)
-      (lexer_stands (at c) m.preferences name settings stands.preferences) (record { lexers = are; stoplists = rules.stoplists; groups = rules.groups })
+      (lexer_stands (at c) m.preferences name settings stands.preferences) (record { lexers = are; stoplists = rules.stoplists; groups = rules.groups; sets = rules.sets })
 
   stoplist_put : (words : List (List ℕ)) → IsName name → AreNamed are_stopwords (insert m.preferences.stoplists name words)
       → StandsForState (after (spell (stoplist_changes name words)) c) (record m { preferences = with_stoplist m.preferences name words })
   stoplist_put words is_name are =
       preferences_stand c m (with_stoplist m.preferences name words) (stoplist_changes name words) stands (refl, tt) (record { owner = is_name; part = refl }, tt)
-      (stoplist_stands (at c) m.preferences name words stands.preferences) (record { lexers = rules.lexers; stoplists = are; groups = rules.groups })
+      (stoplist_stands (at c) m.preferences name words stands.preferences) (record { lexers = rules.lexers; stoplists = are; groups = rules.groups; sets = rules.sets })
 
   group_put : (group : Group) → IsName name → AreNamed is_named_group (insert m.preferences.groups name group)
       → StandsForState (after (spell (group_changes name group)) c) (record m { preferences = with_group m.preferences name group })
   group_put group is_name are =
       preferences_stand c m (with_group m.preferences name group) (group_changes name group) stands (refl, tt) (record { owner = is_name; part = refl }, tt)
-      (group_stands (at c) m.preferences name group stands.preferences) (record { lexers = rules.lexers; stoplists = rules.stoplists; groups = are })
+      (group_stands (at c) m.preferences name group stands.preferences) (record { lexers = rules.lexers; stoplists = rules.stoplists; groups = are; sets = rules.sets })
+
+  set_put : (set : List (List (List ℕ))) → IsName name → AreNamed is_index_set (insert m.preferences.sets name set)
+      → StandsForState (after (spell (set_changes name set)) c) (record m { preferences = with_index_set m.preferences name set })
+  set_put set is_name are =
+      preferences_stand c m (with_index_set m.preferences name set) (set_changes name set) stands (refl, tt) (record { owner = is_name; part = refl }, tt)
+      (set_stands (at c) m.preferences name set stands.preferences) (record { lexers = rules.lexers; stoplists = rules.stoplists; groups = rules.groups; sets = are })
 
   -- another value of one that is there
   pub lexer_again : (old settings : List Setting) → get m.preferences.lexers name ≡ Some old → are_lexer_settings settings ≡ true
@@ -117,6 +128,10 @@ module _ (c : Content) (m : StoreState) (name : List ℕ) (stands : StandsForSta
   pub group_again : (old group : Group) → get m.preferences.groups name ≡ Some old → is_named_group group ≡ true
       → StandsForState (after (spell (group_changes name group)) c) (record m { preferences = with_group m.preferences name group })
   group_again old group there keeps = group_put group (rules.groups.names name old there) (named_again is_named_group m.preferences.groups name group old there rules.groups keeps)
+
+  pub set_again : (old set : List (List (List ℕ))) → get m.preferences.sets name ≡ Some old → is_index_set set ≡ true
+      → StandsForState (after (spell (set_changes name set)) c) (record m { preferences = with_index_set m.preferences name set })
+  set_again old set there keeps = set_put set (rules.sets.names name old there) (named_again is_index_set m.preferences.sets name set old there rules.sets keeps)
 
   -- a new one, where there is room for one
   few : (count : ℕ) → nat_le preference_limit count ≡ false → count < preference_limit
@@ -133,3 +148,4 @@ module _ (c : Content) (m : StoreState) (name : List ℕ) (stands : StandsForSta
       no_sections_kept : (is_null : Bool) → is_named_group (record no_sections { is_null = is_null }) ≡ true
       no_sections_kept true = refl
       no_sections_kept false = refl
+  new_stands IndexSet is_null is_name room = set_put [] is_name (named_more is_index_set m.preferences.sets name [] rules.sets is_name refl (few (length (entries m.preferences.sets)) room))

@@ -1,4 +1,4 @@
--- The plans of what is given to a preference, a stoplist or a section group.
+-- The plans of what is given to a preference, a stoplist, a section group or an index set.
 use Rattle.std.proofs.Common.{◌≡◌, ℕ, ◌<◌, ◌≤◌, ◌^◌, Bool, true, false, List, [], ◌∷◌, ◌++◌, length, Option, Some, None, refl, sym, ap, subst, ◌∙◌, arith, inl, inr, length-append}
 use Rattle.std.specs.Prelude.{◌&&◌, ◌||◌, not, nat_le, nat_lt, is_none, is_some, MatchOption, IfSome}
 use Rattle.std.specs.List.{list_all}
@@ -17,6 +17,7 @@ use Rattle.tx_tags.specs.declared.groups.Section.{Section}
 use Rattle.tx_tags.specs.Groups.{SectionGroup as Group, is_among, is_group, is_reserved, is_tag, kind_of, section_limit, tag_names, tags_limit}
 use Rattle.tx_settings.specs.declared.attributes.Setting.{Setting}
 use Rattle.tx_settings.specs.PrefsBytes.{are_words, is_named_group, is_short, is_text, settings_bytes, words_bytes, are_lexer_settings}
+use Rattle.tx_sets.specs.Sets.{are_sub_indexes, is_index_set}
 use Rattle.tx_prefs.specs.declared.kinds.PrefKind.{PrefKind}
 use Rattle.tx_prefs.specs.Preferences.{with_setting}
 use Rattle.tx_prefs.specs.Promises.{has_room, kind_count}
@@ -24,7 +25,7 @@ use Rattle.tx_settings.specs.PrefsPromises.{stopword_limit}
 use Rattle.tx_prefs.specs.Rules.{are_stopwords, is_stopword}
 use Rattle.tx_prefs.specs.Sees.{is_kind_full}
 use Rattle.tx_prefs.specs.Shapes.{HasPrefValue}
-use Rattle.tx_prefs.specs.Spelling.{lexer_changes, stoplist_changes, group_changes}
+use Rattle.tx_prefs.specs.Spelling.{lexer_changes, stoplist_changes, group_changes, set_changes}
 use Rattle.tx_prefs.specs.laws.Keeps.{stopwords_kept, groups_kept}
 use Rattle.tx_prefs.specs.laws.Lengths.{settings_short, words_short}
 use Rattle.db_cond.specs.Faults.{BadValue, LimitReached}
@@ -35,10 +36,10 @@ use Rattle.db_state.specs.Lines.{call_done}
 use Rattle.db_state.specs.declared.plans.Plan.TheVariants.{Done}
 use Rattle.db_state.specs.laws.Chains.{passes}
 use Rattle.db_state.specs.laws.Serving.{plan_of}
-use Rattle.db_prefs.specs.Defining.{attribute_set, has_stopword_length, is_full_group, is_good_section, new_changes, new_made, section_added, special_added, stopword_added, with_section, with_special}
+use Rattle.db_prefs.specs.Defining.{attribute_set, has_stopword_length, is_full_group, is_good_section, new_changes, new_made, section_added, special_added, stopword_added, sub_index_added, with_section, with_special}
 use Rattle.db_prefs.specs.declared.special_sections.Special.{Special}
 use Rattle.db_prefs.specs.declared.special_sections.Special.TheVariants.{Sentence, Paragraph}
-use Rattle.db_prefs.proofs.NewPreferences.{lexer_again, stoplist_again, group_again, new_stands}
+use Rattle.db_prefs.proofs.NewPreferences.{lexer_again, stoplist_again, group_again, set_again, new_stands}
 
 -- changes of preferences are ones that a store takes
 pub of_preferences : (changes : List (List ℕ × Option (List ℕ))) → AreShaped HasPrefValue changes → AreStoreChanges changes
@@ -112,6 +113,14 @@ module _ (c : Content) (m : StoreState) (name : List ℕ) (batch : List (List �
       special_kept : (s : Special) → is_named_group g ≡ true → is_named_group (with_special g s) ≡ true
       special_kept Sentence are = are
       special_kept Paragraph are = are
+
+  -- a sub-index
+  pub sub_index_planned : (columns : List (List ℕ)) (old : List (List (List ℕ))) → get m.preferences.sets name ≡ Some old
+      → are_sub_indexes (old ++ columns ∷ []) ≡ true → list_all (list_all is_kept) (old ++ columns ∷ []) ≡ true → batch ≡ spell (set_changes name (old ++ columns ∷ []))
+      → IsPlan (sub_index_added columns m name old) call_done c (Done batch)
+  sub_index_planned columns old there are kept is =
+      plan_of (sub_index_added columns m name old) c _ (set_changes name (old ++ columns ∷ [])) batch (passes (not (are_sub_indexes (old ++ columns ∷ []))) LimitReached _ (ap not are)) is
+      (set_again c m name stands old (old ++ columns ∷ []) there (and_from (are_sub_indexes (old ++ columns ∷ [])) (list_all (list_all is_kept) (old ++ columns ∷ [])) are kept))
 
 -- ---- settings
 

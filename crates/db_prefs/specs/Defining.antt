@@ -1,5 +1,5 @@
--- What the procedures do that define lexer preferences, stoplists and section groups.
-use Rattle.std.specs.Prelude.{ℕ, ◌≡◌, Bool, true, false, not, ◌&&◌, ◌||◌, nat_le, List, [], ◌∷◌, ◌++◌, length, is_some, is_none, Option, Some, None, Result, codes, refl}
+-- What the procedures do that define lexer preferences, stoplists, section groups and index sets.
+use Rattle.std.specs.Prelude.{ℕ, ◌≡◌, Bool, true, false, not, ◌&&◌, ◌||◌, nat_le, List, [], ◌∷◌, ◌++◌, length, is_some, is_none, Option, Some, None, Result, codes, refl, replicate}
 use Rattle.std.specs.Bool.{if◌then◌else◌}
 use Rattle.std.specs.Option.{option_and_then}
 use Rattle.std.specs.FinMap.{get, get-empty}
@@ -9,7 +9,7 @@ use Rattle.std.proofs.Common.{ap}
 use Rattle.st_parse.specs.declared.statements.Arg.{Arg}
 use Rattle.st_parse.specs.declared.statements.Arg.TheVariants.{Text, Flag}
 use Rattle.st_parse.specs.declared.procedures.Definition.{Definition}
-use Rattle.st_parse.specs.declared.procedures.Definition.TheVariants.{CreatePreference, SetAttribute, CreateStoplist, AddStopword, CreateSectionGroup, AddZoneSection, AddFieldSection, AddSpecialSection}
+use Rattle.st_parse.specs.declared.procedures.Definition.TheVariants.{CreatePreference, SetAttribute, CreateStoplist, AddStopword, CreateSectionGroup, AddZoneSection, AddFieldSection, AddSpecialSection, CreateIndexSet, AddIndex}
 use Rattle.ct_entry.specs.Keys.{Key}
 use Rattle.tx_stop.specs.StopKeys.{stop_limit}
 use Rattle.tx_tags.specs.declared.groups.SectionKind.{SectionKind}
@@ -17,12 +17,14 @@ use Rattle.tx_tags.specs.declared.groups.SectionKind.TheVariants.{Zone, Field, V
 use Rattle.tx_tags.specs.Groups.{SectionGroup as Group, no_sections, is_among, is_reserved, is_tag, tag_names, section_limit, tags_limit, with_tag, kind_of}
 use Rattle.tx_settings.specs.declared.attributes.Setting.{Setting}
 use Rattle.tx_settings.specs.Attributes.{attribute_named, takes_value, setting}
+use Rattle.tx_sets.specs.Sets.{are_sub_indexes, two_sub_indexes}
+use Rattle.tx_sets.specs.Columns.{columns_of}
 use Rattle.tx_prefs.specs.declared.kinds.PrefKind.{PrefKind}
-use Rattle.tx_prefs.specs.declared.kinds.PrefKind.TheVariants.{Lexer, Stoplist, SectionGroup}
-use Rattle.tx_prefs.specs.Preferences.{Preferences, with_lexer, with_stoplist, with_group, with_setting, no_preferences}
+use Rattle.tx_prefs.specs.declared.kinds.PrefKind.TheVariants.{Lexer, Stoplist, SectionGroup, IndexSet}
+use Rattle.tx_prefs.specs.Preferences.{Preferences, with_lexer, with_stoplist, with_group, with_index_set, with_setting, no_preferences}
 use Rattle.tx_settings.specs.PrefsPromises.{stopword_limit}
 use Rattle.tx_prefs.specs.Promises.{kind_count}
-use Rattle.tx_prefs.specs.Spelling.{lexer_changes, stoplist_changes, group_changes}
+use Rattle.tx_prefs.specs.Spelling.{lexer_changes, stoplist_changes, group_changes, set_changes}
 use Rattle.tx_prefs.specs.Sees.{has_named, is_kind_full}
 use Rattle.db_cond.specs.Faults.{UnknownName, ExistsAlready, WrongValues, BadValue, LimitReached}
 use Rattle.db_call.specs.Arguments.{argument_text, argument_name, are_texts, spells_word}
@@ -42,11 +44,12 @@ with_preferences m ps = Does (record m { preferences = ps }) call_done
 
 -- ---- something new
 
--- whether the arguments are a name and a type; a stoplist's type may be left out
+-- whether the arguments are a name and a type; a stoplist's type may be left out, and an index set has none
 abbrev pub are_new_args : PrefKind → List Arg → Bool
 are_new_args Lexer args = are_texts 2 args
 are_new_args Stoplist args = are_texts 1 args || are_texts 2 args
 are_new_args SectionGroup args = are_texts 2 args
+are_new_args IndexSet args = are_texts 1 args
 
 abbrev pub is_null_type : Option (List ℕ) → Bool
 is_null_type text = spells_word (codes "null_section_group") text
@@ -56,12 +59,14 @@ abbrev pub is_type : PrefKind → Option (List ℕ) → Bool
 is_type Lexer text = spells_word (codes "basic_lexer") text
 is_type Stoplist text = is_none text || spells_word (codes "basic_stoplist") text
 is_type SectionGroup text = is_null_type text || spells_word (codes "basic_section_group") text
+is_type IndexSet text = true
 
 -- with a new one of this name; whether a section group is a null one is told
 abbrev pub with_new : PrefKind → Preferences → List ℕ → Bool → Preferences
 with_new Lexer ps name is_null = with_lexer ps name []
 with_new Stoplist ps name is_null = with_stoplist ps name []
 with_new SectionGroup ps name is_null = with_group ps name (record no_sections { is_null = is_null })
+with_new IndexSet ps name is_null = with_index_set ps name []
 
 -- whether one of the kind has the name, if there is a name
 abbrev pub is_there : PrefKind → Preferences → Option (List ℕ) → Bool
@@ -206,6 +211,26 @@ add_special_section m name args =
     (with_found asked BadValue (λ (s : Special).
     of_both name found (special_added s m)))
 
+-- ---- a sub-index
+
+-- The columns as a sub-index behind the others. A limit is passed where the set with it isn't one: it has sixteen sub-indexes already, or
+-- the columns are more than three.
+abbrev pub sub_index_added : List (List ℕ) → StoreState → List ℕ → List (List (List ℕ)) → Effect
+sub_index_added columns m name set =
+    refuse (not (are_sub_indexes (set ++ columns ∷ []))) LimitReached
+    (with_preferences m (with_index_set m.preferences name (set ++ columns ∷ [])))
+
+-- the columns that a text tells, if there is a text
+abbrev pub columns_told : Option (List ℕ) → Option (List (List ℕ))
+columns_told text = option_and_then columns_of text
+
+abbrev pub add_sub_index : StoreState → Option (List ℕ) → List Arg → Effect
+add_sub_index m name args =
+    let found = get_named m.preferences.sets name in
+    check (missing_name (is_some found) name) None (are_texts 2 args)
+    (with_found (columns_told (argument_text 1 args)) BadValue (λ (columns : List (List ℕ)).
+    of_both name found (sub_index_added columns m)))
+
 -- ---- all of them
 
 -- by what a refusal may show: the names that the first two arguments spell, and the third in lower case
@@ -218,6 +243,8 @@ define_by m CreateSectionGroup name section tag args = create SectionGroup m nam
 define_by m AddZoneSection name section tag args = add_section Zone (are_texts 3 args) m name section tag
 define_by m AddFieldSection name section tag args = add_section (field_kind args) (are_texts 3 args || are_texts_and_flag args) m name section tag
 define_by m AddSpecialSection name section tag args = add_special_section m name args
+define_by m CreateIndexSet name section tag args = create IndexSet m name args
+define_by m AddIndex name section tag args = add_sub_index m name args
 
 abbrev pub define : StoreState → Definition → List Arg → Effect
 define m procedure args = define_by m procedure (argument_name 0 args) (argument_name 1 args) (lower_at 2 args) args
@@ -237,12 +264,14 @@ abbrev pub new_changes : PrefKind → List ℕ → Bool → List (Key × Option 
 new_changes Lexer name is_null = lexer_changes name []
 new_changes Stoplist name is_null = stoplist_changes name []
 new_changes SectionGroup name is_null = group_changes name (record no_sections { is_null = is_null })
+new_changes IndexSet name is_null = set_changes name []
 
 -- computed examples: in the empty state
 nothing_there : (kind : PrefKind) (name : List ℕ) → has_named kind name no_preferences ≡ false
 nothing_there Lexer name = ap is_some (get-empty (slice_cmp nat_cmp) name)
 nothing_there Stoplist name = ap is_some (get-empty (slice_cmp nat_cmp) name)
 nothing_there SectionGroup name = ap is_some (get-empty (slice_cmp nat_cmp) name)
+nothing_there IndexSet name = ap is_some (get-empty (slice_cmp nat_cmp) name)
 
 no_lexer : define empty_state SetAttribute (Text (codes "lx") ∷ []) ≡ Refused (UnknownName (codes "lx"))
 no_lexer = ap (λ (b : Bool). refuse_by (missing_name b (Some (codes "lx"))) UnknownName (Refused WrongValues)) (nothing_there Lexer (codes "lx"))
@@ -279,3 +308,20 @@ that_can_be_seen = refl
 -- stopwords are told by their bytes as they were given
 in_another_case : among (Some (codes "the" ∷ [])) (Some (codes "The")) ≡ None
 in_another_case = refl
+
+-- a new index set has no type; where there is none of the name, that comes before the number of arguments
+with_a_type : define empty_state CreateIndexSet (Text (codes "iset") ∷ Text (codes "BASIC") ∷ []) ≡ Refused WrongValues
+with_a_type = ap (λ (b : Bool). refuse_by (taken_name b (Some (codes "iset"))) ExistsAlready (Refused WrongValues)) (nothing_there IndexSet (codes "iset"))
+
+no_set : define empty_state AddIndex (Text (codes "iset") ∷ []) ≡ Refused (UnknownName (codes "iset"))
+no_set = ap (λ (b : Bool). refuse_by (missing_name b (Some (codes "iset"))) UnknownName (Refused WrongValues)) (nothing_there IndexSet (codes "iset"))
+
+-- a third sub-index, and one of four columns
+a_third : (m : StoreState) → sub_index_added (codes "id" ∷ []) m (codes "iset") two_sub_indexes ≡ with_preferences m (with_index_set m.preferences (codes "iset") (two_sub_indexes ++ (codes "id" ∷ []) ∷ []))
+a_third m = refl
+
+of_four : (m : StoreState) → sub_index_added (codes "a" ∷ codes "b" ∷ codes "c" ∷ codes "d" ∷ []) m (codes "iset") two_sub_indexes ≡ Refused LimitReached
+of_four m = refl
+
+a_seventeenth : (m : StoreState) → sub_index_added (codes "id" ∷ []) m (codes "iset") (replicate 16 (codes "price" ∷ [])) ≡ Refused LimitReached
+a_seventeenth m = refl

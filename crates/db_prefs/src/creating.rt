@@ -1,4 +1,4 @@
-//! CTX_DDL.CREATE_PREFERENCE, CREATE_STOPLIST and CREATE_SECTION_GROUP.
+//! CTX_DDL.CREATE_PREFERENCE, CREATE_STOPLIST, CREATE_SECTION_GROUP and CREATE_INDEX_SET.
 #![tactic(auto, using(ct_keep::specs::laws::Composing::reads_on, ct_keep::specs::laws::Composing::reads_short))]
 
 ghost use Rattle.std.specs.Prelude.{◌≡◌, IfOk, IfSome, Some};
@@ -21,16 +21,17 @@ use db_cond::Fault;
 use db_state::Plan;
 use st_parse::Arg;
 use std::alloc::Global;
-use tx_prefs::{PrefKind, group_changes, lexer_changes, stoplist_changes};
+use tx_prefs::{PrefKind, group_changes, lexer_changes, set_changes, stoplist_changes};
 use tx_tags::Group;
 
-/// Whether the arguments are a name and a type; a stoplist's type may be left out.
+/// Whether the arguments are a name and a type; a stoplist's type may be left out, and an index set has none.
 fn are_new_args(kind: PrefKind, args: &[Arg]) -> bool
     ensures { result ≡ new_args kind args.now }
 {
     match kind {
         PrefKind::Lexer | PrefKind::SectionGroup => are_texts(args, 2),
         PrefKind::Stoplist => are_texts(args, 1) || are_texts(args, 2),
+        PrefKind::IndexSet => are_texts(args, 1),
     }
 }
 
@@ -49,6 +50,7 @@ fn is_type(kind: PrefKind, text: Option<&str>) -> bool
         PrefKind::Lexer => spells_word(text, "basic_lexer"),
         PrefKind::Stoplist => text.is_none() || spells_word(text, "basic_stoplist"),
         PrefKind::SectionGroup => is_null_type(text) || spells_word(text, "basic_section_group"),
+        PrefKind::IndexSet => true,
     }
 }
 
@@ -76,6 +78,11 @@ fn new_batch(
             let batch = group_changes(alloc, name, &group)?;
             Ok(Some(batch))
         }
+        PrefKind::IndexSet => {
+            let set = Vec::new(alloc);
+            let batch = set_changes(alloc, name, &set)?;
+            Ok(Some(batch))
+        }
     }
 }
 
@@ -100,7 +107,8 @@ fn new_plan<'a>(
     Ok(Plan::Done(batch))
 }
 
-/// The plan of the three procedures that make a lexer preference, a stoplist or a section group: a refusal, or the batch that makes it.
+/// The plan of the four procedures that make a lexer preference, a stoplist, a section group or an index set: a refusal, or the batch that
+/// makes it.
 pub(crate) fn create_plan<'a, K: Keeper>(
     alloc: Global,
     keeper: &mut K,

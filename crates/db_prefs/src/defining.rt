@@ -16,6 +16,7 @@ use crate::creating::create_plan;
 use crate::sections::section_plan;
 use crate::special_sections::special_plan;
 use crate::stopwords::stopword_plan;
+use crate::sub_indexes::sub_index_plan;
 use ct_base::{Memory, Name, Text};
 use ct_keep::{KeepFault, Keeper};
 use db_call::{are_texts, name_at};
@@ -97,15 +98,18 @@ fn define_plan<'a, K: Keeper>(
             section_plan(alloc, keeper, field_kind(args), shaped, name, section, tag)
         }
         Definition::AddSpecialSection => special_plan(alloc, keeper, name, args),
+        Definition::CreateIndexSet => create_plan(alloc, keeper, PrefKind::IndexSet, name, args),
+        Definition::AddIndex => sub_index_plan(alloc, keeper, name, args),
     }
 }
 
-/// Carries out one of the eight procedures of CTX_DDL that define lexer preferences, stoplists and section groups, by at most one
-/// commit.
+/// Carries out one of the ten procedures of CTX_DDL that define lexer preferences, stoplists, section groups and index sets, by at most
+/// one commit.
 ///
 /// It is refused, in this order, where a name is unknown; where what it makes exists already; where its arguments are too few, too
-/// many or of other kinds; where a type, an attribute, a value, a word, a tag or a name is bad; and where a limit would be passed:
-/// 256 of each kind, 4096 words in a stoplist, and 64 zones, 64 fields and 256 tags in a group.
+/// many or of other kinds; where a type, an attribute, a value, a word, a tag, a name or a list of columns is bad; and where a limit would
+/// be passed: 256 of each kind, 4096 words in a stoplist, 64 zones, 64 fields and 256 tags in a group, and 16 sub-indexes of 3 columns in
+/// an index set. Whether a table has the columns isn't asked.
 ///
 /// Its cost is linear in the length of the entry, and where something new is made of all entries of its kind; for a section group it is
 /// the square of the number of its tags, of which there are at most 256. Since each call reads and writes the whole entry, n stopwords

@@ -1,4 +1,4 @@
-//! The procedures that define lexer preferences, stoplists and section groups.
+//! The procedures that define lexer preferences, stoplists, section groups and index sets.
 #![tactic(auto)]
 
 mod arguments;
@@ -9,5 +9,6 @@ mod lookups;
 mod sections;
 mod special_sections;
 mod stopwords;
+mod sub_indexes;
 
 pub use defining::define;

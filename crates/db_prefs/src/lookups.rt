@@ -13,7 +13,8 @@ ghost use Rattle.db_call.specs.Checks.{get_named};
 use ct_base::{Name, Text};
 use ct_keep::{KeepFault, Keeper};
 use std::alloc::Global;
-use tx_prefs::{PrefKind, has_named, lexer_settings, section_group, stoplist_words};
+use tx_prefs::{PrefKind, has_named, index_set, lexer_settings, section_group, stoplist_words};
+use tx_sets::SubIndex;
 use tx_settings::Setting;
 use tx_tags::Group;
 
@@ -93,6 +94,22 @@ pub(crate) fn group_of<K: Keeper>(
 {
     match name {
         Some(name) => section_group(alloc, keeper, name),
+        None => Ok(None),
+    }
+}
+
+/// The sub-indexes of the index set of the name.
+pub(crate) fn set_of<K: Keeper>(
+    alloc: Global,
+    keeper: &mut K,
+    name: &Option<Name>,
+) -> Result<Option<Vec<SubIndex>>, KeepFault>
+    requires { (K.view keeper.old).ready }
+    ensures set { Sees K.view keeper.old result (λ m found. option_map (λ v. v.items) found ≡ get_named m.preferences.sets name.now) }
+    ensures reads { OnlyReads K.view keeper.old keeper.new result }
+{
+    match name {
+        Some(name) => index_set(alloc, keeper, name),
         None => Ok(None),
     }
 }

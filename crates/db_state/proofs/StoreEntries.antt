@@ -13,7 +13,7 @@ use Rattle.ct_entry.specs.laws.Well.{entry_of_key}
 use Rattle.tb_table.specs.Shapes.{HasTableValue}
 use Rattle.ix_context.specs.Shapes.{HasContextValue}
 use Rattle.tx_prefs.specs.Shapes.{HasPrefValue}
-use Rattle.tx_prefs.specs.laws.Values.{lexer_value, stoplist_value, group_value}
+use Rattle.tx_prefs.specs.laws.Values.{lexer_value, stoplist_value, group_value, set_value}
 use Rattle.th_graph.specs.declared.pairs.TermPair.{TermPair}
 use Rattle.th_store.specs.Shapes.{HasThesaurusValue}
 use Rattle.th_store.specs.Thesauri.{pair_part}
@@ -88,7 +88,7 @@ module _ (c : Content) (m : StoreState) (stands : StandsForState c m) where
   stored kind.Preferences o p v is = by_part kind.Preferences o v p _ is (λ has. of_preference _ v refl (lexer_value (at c) m.preferences stands.preferences stands.state.preferences o v has))
   stored kind.Stoplists o p v is = by_part kind.Stoplists o v p _ is (λ has. of_preference _ v refl (stoplist_value (at c) m.preferences stands.preferences stands.state.preferences o v has))
   stored kind.SectionGroups o p v is = by_part kind.SectionGroups o v p _ is (λ has. of_preference _ v refl (group_value (at c) m.preferences stands.preferences stands.state.preferences o v has))
-  stored kind.IndexSets o p v is = nothing (key kind.IndexSets o p) v refl
+  stored kind.IndexSets o p v is = by_part kind.IndexSets o v p _ is (λ has. of_preference _ v refl (set_value (at c) m.preferences stands.preferences stands.state.preferences o v has))
   stored kind.Thesauri o p v is = by_part kind.Thesauri o v p _ is (thesaurus o v)
   stored kind.Relations o p v is =
       let q = part_is_pair p is in

@@ -22,7 +22,7 @@ use Rattle.ix_indexes.specs.Indexes.{Index, mark_of, part_of, postings_in}
 use Rattle.ix_indexes.specs.laws.Indexes.{context_at}
 use Rattle.ix_context.specs.laws.Weights.{has_code, weighs as postings_weigh}
 use Rattle.tx_prefs.specs.Room.{preference_entries}
-use Rattle.tx_prefs.specs.laws.Room.{lexer_in, stoplist_in, group_in}
+use Rattle.tx_prefs.specs.laws.Room.{lexer_in, stoplist_in, group_in, set_in}
 use Rattle.th_store.specs.Thesauri.{pair_part}
 use Rattle.th_store.specs.Room.{thesaurus_entries}
 use Rattle.th_store.specs.laws.Parts.{part_is_pair}
@@ -90,7 +90,7 @@ module _ (c : Content) (m : StoreState) (stands : StandsForState c m) where
   listed kind.Preferences o p v other is = by_part kind.Preferences o v p _ is (λ has. of_preferences _ (lexer_in (at c) m.preferences stands.preferences o v has))
   listed kind.Stoplists o p v other is = by_part kind.Stoplists o v p _ is (λ has. of_preferences _ (stoplist_in (at c) m.preferences stands.preferences o v has))
   listed kind.SectionGroups o p v other is = by_part kind.SectionGroups o v p _ is (λ has. of_preferences _ (group_in (at c) m.preferences stands.preferences o v has))
-  listed kind.IndexSets o p v other is = nothing (key kind.IndexSets o p) v refl
+  listed kind.IndexSets o p v other is = by_part kind.IndexSets o v p _ is (λ has. of_preferences _ (set_in (at c) m.preferences stands.preferences o v has))
   listed kind.Thesauri o p v other is = by_part kind.Thesauri o v p _ is (λ has. of_thesauri _ (thesaurus_in (at c) m.thesauri stands.thesauri o v has))
   listed kind.Relations o p v other is =
       let q = part_is_pair p is in

@@ -51,7 +51,7 @@ pub record IsState (m : StoreState) : Type 0 where
   pub preferences : ArePreferences m.preferences
   pub thesauri : AreThesauri m.thesauri
 
--- the kinds of entries that tables, CONTEXT indexes, lexer preferences, stoplists, section groups and thesauri have; for now there is nothing else that is kept
+-- the kinds of entries that tables, CONTEXT indexes, lexer preferences, stoplists, section groups, index sets and thesauri have; for now there is nothing else that is kept
 abbrev pub is_built : Kind → Bool
 is_built kind.Tables = true
 is_built kind.RowNumbers = true
@@ -59,7 +59,7 @@ is_built kind.RowTexts = true
 is_built kind.Preferences = true
 is_built kind.Stoplists = true
 is_built kind.SectionGroups = true
-is_built kind.IndexSets = false
+is_built kind.IndexSets = true
 is_built kind.Thesauri = true
 is_built kind.Relations = true
 is_built kind.Indexes = true

@@ -11,8 +11,9 @@ use tb_table::is_table_shape;
 use th_store::is_thesaurus_shape;
 use tx_prefs::is_pref_shape;
 
-/// The shape of a store: each entry is one of a table, of a CONTEXT index, of a preference, a stoplist or a section group, or of a
-/// thesaurus, with a key and a value of its kind's form (docs/STORE.md). To tell of an entry costs the length of its key and its value.
+/// The shape of a store: each entry is one of a table, of a CONTEXT index, of a preference, a stoplist, a section group or an index
+/// set, or of a thesaurus, with a key and a value of its kind's form (docs/STORE.md). To tell of an entry costs the length of its key
+/// and its value.
 #[derive(Drop)]
 pub struct StoreShape;
 

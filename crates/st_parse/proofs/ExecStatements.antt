@@ -14,7 +14,7 @@ use Rattle.st_parse.specs.declared.statements.Statement.TheVariants.{Exec}
 use Rattle.st_parse.specs.Lexemes.{◌>>=◌}
 use Rattle.st_parse.specs.Lists.{AreEnclosed, enclosed_last}
 use Rattle.st_parse.specs.Values.{IsSigned, signed_at}
-use Rattle.st_parse.specs.declared.procedures.Definition.TheVariants.{CreatePreference, SetAttribute, CreateStoplist, AddStopword, CreateSectionGroup, AddZoneSection, AddFieldSection, AddSpecialSection}
+use Rattle.st_parse.specs.declared.procedures.Definition.TheVariants.{CreatePreference, SetAttribute, CreateStoplist, AddStopword, CreateSectionGroup, AddZoneSection, AddFieldSection, AddSpecialSection, CreateIndexSet, AddIndex}
 use Rattle.st_parse.specs.declared.procedures.Procedure.{Procedure}
 use Rattle.st_parse.specs.declared.procedures.ThesaurusCall.TheVariants.{CreateThesaurus, CreateRelation}
 use Rattle.st_parse.specs.declared.procedures.Procedure.TheVariants.{PolicyTokens, SyncIndex, Define, Thesaurus}
@@ -81,6 +81,8 @@ named-again (Define CreateSectionGroup) = refl
 named-again (Define AddZoneSection) = refl
 named-again (Define AddFieldSection) = refl
 named-again (Define AddSpecialSection) = refl
+named-again (Define CreateIndexSet) = refl
+named-again (Define AddIndex) = refl
 named-again (Thesaurus CreateThesaurus) = refl
 named-again (Thesaurus CreateRelation) = refl
 

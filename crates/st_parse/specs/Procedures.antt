@@ -2,7 +2,7 @@
 use Rattle.std.specs.Prelude.{ℕ, ◌≡◌, ◌&&◌, List, [], ◌∷◌, bytes_eq, Option, Some, None, codes, refl}
 use Rattle.std.specs.Bool.{if◌then◌else◌}
 use Rattle.st_parse.specs.declared.procedures.Definition.{Definition}
-use Rattle.st_parse.specs.declared.procedures.Definition.TheVariants.{CreatePreference, SetAttribute, CreateStoplist, AddStopword, CreateSectionGroup, AddZoneSection, AddFieldSection, AddSpecialSection}
+use Rattle.st_parse.specs.declared.procedures.Definition.TheVariants.{CreatePreference, SetAttribute, CreateStoplist, AddStopword, CreateSectionGroup, AddZoneSection, AddFieldSection, AddSpecialSection, CreateIndexSet, AddIndex}
 use Rattle.st_parse.specs.declared.procedures.ThesaurusCall.{ThesaurusCall}
 use Rattle.st_parse.specs.declared.procedures.ThesaurusCall.TheVariants.{CreateThesaurus, CreateRelation}
 use Rattle.st_parse.specs.declared.procedures.Procedure.{Procedure}
@@ -17,6 +17,8 @@ definition_name CreateSectionGroup = codes "create_section_group"
 definition_name AddZoneSection = codes "add_zone_section"
 definition_name AddFieldSection = codes "add_field_section"
 definition_name AddSpecialSection = codes "add_special_section"
+definition_name CreateIndexSet = codes "create_index_set"
+definition_name AddIndex = codes "add_index"
 
 abbrev pub thesaurus_call_name : ThesaurusCall → List ℕ
 thesaurus_call_name CreateThesaurus = codes "create_thesaurus"
@@ -37,7 +39,7 @@ procedure_name (Thesaurus call) = thesaurus_call_name call
 abbrev pub all_procedures : List Procedure
 all_procedures =
     PolicyTokens ∷ SyncIndex ∷ Define CreatePreference ∷ Define SetAttribute ∷ Define CreateStoplist ∷ Define AddStopword ∷ Define CreateSectionGroup ∷ Define AddZoneSection
-    ∷ Define AddFieldSection ∷ Define AddSpecialSection ∷ Thesaurus CreateThesaurus ∷ Thesaurus CreateRelation ∷ []
+    ∷ Define AddFieldSection ∷ Define AddSpecialSection ∷ Define CreateIndexSet ∷ Define AddIndex ∷ Thesaurus CreateThesaurus ∷ Thesaurus CreateRelation ∷ []
 
 -- the first of some that has these names
 abbrev pub procedure_among : List ℕ → List ℕ → List Procedure → Option Procedure
@@ -51,6 +53,9 @@ procedure_named pack name = procedure_among pack name all_procedures
 -- computed examples
 a_definition : procedure_named (codes "ctx_ddl") (codes "add_stopword") ≡ Some (Define AddStopword)
 a_definition = refl
+
+a_sub_index : procedure_named (codes "ctx_ddl") (codes "add_index") ≡ Some (Define AddIndex)
+a_sub_index = refl
 
 a_relation : procedure_named (codes "ctx_thes") (codes "create_relation") ≡ Some (Thesaurus CreateRelation)
 a_relation = refl

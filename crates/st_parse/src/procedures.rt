@@ -14,6 +14,8 @@ pub enum Definition {
     AddZoneSection,
     AddFieldSection,
     AddSpecialSection,
+    CreateIndexSet,
+    AddIndex,
 }
 
 /// A procedure of CTX_THES, which makes a thesaurus or states a relation of its terms.
@@ -37,7 +39,7 @@ pub enum Procedure {
 }
 
 /// All procedures.
-const ALL_PROCEDURES: [Procedure; 12] = [
+const ALL_PROCEDURES: [Procedure; 14] = [
     Procedure::PolicyTokens,
     Procedure::SyncIndex,
     Procedure::Define(Definition::CreatePreference),
@@ -48,6 +50,8 @@ const ALL_PROCEDURES: [Procedure; 12] = [
     Procedure::Define(Definition::AddZoneSection),
     Procedure::Define(Definition::AddFieldSection),
     Procedure::Define(Definition::AddSpecialSection),
+    Procedure::Define(Definition::CreateIndexSet),
+    Procedure::Define(Definition::AddIndex),
     Procedure::Thesaurus(ThesaurusCall::CreateThesaurus),
     Procedure::Thesaurus(ThesaurusCall::CreateRelation),
 ];
@@ -66,6 +70,8 @@ impl Definition {
             Definition::AddZoneSection => "add_zone_section",
             Definition::AddFieldSection => "add_field_section",
             Definition::AddSpecialSection => "add_special_section",
+            Definition::CreateIndexSet => "create_index_set",
+            Definition::AddIndex => "add_index",
         }
     }
 }

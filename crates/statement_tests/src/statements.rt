@@ -231,6 +231,10 @@ const FORMS: &[(&str, Option<&str>)] = &[
         "EXEC ctx_ddl.add_field_section('g', 't', 'T', TRUE)",
         Some("exec"),
     ),
+    ("EXEC Ctx_Ddl.Create_Index_Set('s')", Some("exec")),
+    ("EXEC ctx_ddl.add_index('s', 'a, b')", Some("exec")),
+    ("EXEC ctx_ddl.add_index('s', a)", None),
+    ("EXEC ctx_ddl.drop_index_set('s')", None),
     ("EXEC Ctx_Thes.Create_Thesaurus('t', FALSE)", Some("exec")),
     ("EXEC ctx_thes.create_thesaurus()", Some("exec")),
     (

@@ -4,6 +4,8 @@
 #[cfg(test)]
 mod index_names;
 #[cfg(test)]
+mod index_sets;
+#[cfg(test)]
 mod stored_preferences;
 #[cfg(test)]
 mod stored_thesauri;

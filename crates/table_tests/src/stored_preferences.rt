@@ -1,5 +1,6 @@
 //! Preferences in a keeper in memory.
 
+use crate::index_sets::{say_set, set_change};
 use ct_base::{Memory, Name, Text};
 use ct_entry::Kind;
 use ct_keep::{Batch, KeepFault, MemKeeper};
@@ -62,6 +63,7 @@ fn add(
         PrefKind::Lexer => lexer_change(alloc, name, bytes)?,
         PrefKind::Stoplist => stoplist_change(alloc, name, bytes)?,
         PrefKind::SectionGroup => group_change(alloc, name, bytes)?,
+        PrefKind::IndexSet => set_change(alloc, name, bytes)?,
     };
     commit_some(alloc, keeper, batch)
 }
@@ -79,9 +81,14 @@ const STORED: &[(PrefKind, &str, &[u8])] = &[
         "g",
         b"\x01\x01\x01\x01p\x01\x02\x01p\x02h1",
     ),
+    (
+        PrefKind::IndexSet,
+        "iset",
+        b"\x02\x01\x05price\x02\x04kind\x05price",
+    ),
 ];
 
-/// A keeper in memory with a preference, a stoplist whose words were others at first, and a section group.
+/// A keeper in memory with a preference, a stoplist whose words were others at first, a section group and an index set.
 fn stored(alloc: Global) -> Result<MemKeeper, KeepFault> {
     let mut keeper = new_keeper(alloc)?;
     for (kind, name, bytes) in STORED {
@@ -91,7 +98,7 @@ fn stored(alloc: Global) -> Result<MemKeeper, KeepFault> {
     Ok(keeper)
 }
 
-fn say(line: &mut String, text: &str) -> Result<(), Memory> {
+pub(crate) fn say(line: &mut String, text: &str) -> Result<(), Memory> {
     line.push_str(text)?;
     line.push_str(" ")?;
     Ok(())
@@ -168,6 +175,7 @@ fn say_stored(
         PrefKind::Lexer => say_lexer(alloc, line, keeper, name)?,
         PrefKind::Stoplist => say_stoplist(alloc, line, keeper, name)?,
         PrefKind::SectionGroup => say_group(alloc, line, keeper, name)?,
+        PrefKind::IndexSet => say_set(alloc, line, keeper, name)?,
     }
     let is_there = has_named(alloc, keeper, kind, name)?;
     say(line, if is_there { "there" } else { "gone" })?;
@@ -187,6 +195,8 @@ const LINES: &[(PrefKind, &str, &str)] = &[
     (PrefKind::Lexer, "lx", "mixed_case Yes skipjoins - there "),
     (PrefKind::Stoplist, "sl", "the Is there "),
     (PrefKind::SectionGroup, "g", "p p h1 there "),
+    (PrefKind::IndexSet, "iset", "price / kind price / there "),
+    (PrefKind::IndexSet, "g", "gone "),
     (PrefKind::Lexer, "sl", "gone "),
     (PrefKind::Stoplist, "s", "gone "),
     (PrefKind::SectionGroup, "lx", "gone "),
@@ -294,6 +304,9 @@ const SHAPES: &[(Kind, &[u8], &[u8], bool)] = &[
     (Kind::Stoplists, b"", b"\x03\x03the\x02Is", false),
     (Kind::SectionGroups, b"", b"\x02\0\0", true),
     (Kind::SectionGroups, b"", b"\x02\0\0\0", false),
+    (Kind::IndexSets, b"", b"\x02\x01\x05price\0", true),
+    (Kind::IndexSets, b"", b"\x02\x01\x05price", false),
+    (Kind::IndexSets, b"", b"\x01\x01\x05Price", false),
     (Kind::Tables, b"", b"\x02\0\0", false),
 ];
 

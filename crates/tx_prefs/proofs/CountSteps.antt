@@ -18,8 +18,9 @@ use Rattle.ct_entry.specs.laws.MapEntries.{get_in, in_get, entries_apart}
 use Rattle.ct_entry.specs.laws.Owners.{HasNoPart, key_order_total, get-in_key_order, owners_listed}
 use Rattle.ct_entry.specs.laws.Rows.{keys_always}
 use Rattle.tx_settings.specs.PrefsBytes.{are_lexer_settings, group_bytes, is_named_group, settings_bytes, words_bytes}
+use Rattle.tx_sets.specs.Sets.{is_index_set, set_bytes}
 use Rattle.tx_prefs.specs.declared.kinds.PrefKind.{PrefKind}
-use Rattle.tx_prefs.specs.declared.kinds.PrefKind.TheVariants.{Lexer, Stoplist, SectionGroup}
+use Rattle.tx_prefs.specs.declared.kinds.PrefKind.TheVariants.{Lexer, Stoplist, SectionGroup, IndexSet}
 use Rattle.tx_prefs.specs.Preferences.{Preferences}
 use Rattle.tx_prefs.specs.Spelling.{NamesStand, PreferencesStand, entry_kind}
 use Rattle.tx_prefs.specs.Rules.{AreNamed, are_stopwords}
@@ -31,6 +32,7 @@ pub named_there : (f : Key → Option (List ℕ)) (ps : Preferences) (k : PrefKi
 named_there f ps Lexer name stand = ap is_some (stand.lexers name) ∙ is_some-option_map settings_bytes (get ps.lexers name)
 named_there f ps Stoplist name stand = ap is_some (stand.stoplists name) ∙ is_some-option_map words_bytes (get ps.stoplists name)
 named_there f ps SectionGroup name stand = ap is_some (stand.groups name) ∙ is_some-option_map group_bytes (get ps.groups name)
+named_there f ps IndexSet name stand = ap is_some (stand.sets name) ∙ is_some-option_map set_bytes (get ps.sets name)
 
 -- ---- how many there are
 
@@ -62,3 +64,4 @@ pub named_owners : (m : Content) (ps : Preferences) (k : PrefKind) → HoldsPref
 named_owners m ps Lexer holds = owners_count m kind.Preferences settings_bytes are_lexer_settings ps.lexers holds.only (λ p bare. bare) holds.stand.lexers holds.rules.lexers
 named_owners m ps Stoplist holds = owners_count m kind.Stoplists words_bytes are_stopwords ps.stoplists holds.only (λ p bare. bare) holds.stand.stoplists holds.rules.stoplists
 named_owners m ps SectionGroup holds = owners_count m kind.SectionGroups group_bytes is_named_group ps.groups holds.only (λ p bare. bare) holds.stand.groups holds.rules.groups
+named_owners m ps IndexSet holds = owners_count m kind.IndexSets set_bytes is_index_set ps.sets holds.only (λ p bare. bare) holds.stand.sets holds.rules.sets

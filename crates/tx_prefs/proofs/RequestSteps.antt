@@ -6,7 +6,7 @@ use Rattle.ct_base.specs.Names.{is_spelling}
 use Rattle.tx_prefs.specs.declared.kinds.PrefKind.{PrefKind}
 use Rattle.tx_prefs.specs.declared.kinds.PrefKind.TheVariants.{Lexer, Stoplist, SectionGroup}
 use Rattle.tx_prefs.specs.declared.requests.Request.{Request}
-use Rattle.tx_prefs.specs.Requests.{asked, default_name, is_free, request, requests_from, with_request}
+use Rattle.tx_prefs.specs.Requests.{asked, is_default, is_free, request, requests_from, with_request}
 use Rattle.tx_prefs.specs.RequestWords.{first_request, named_request}
 
 -- the requests with this one, and those of the words behind it, where it is the first of its kind
@@ -15,7 +15,7 @@ onward rs r rest = cond (is_free r.kind rs) (requests_from (rs ++ r ∷ []) rest
 
 -- what is asked for is of the kind
 asked_kind : (kind : PrefKind) (v : List ℕ) (r : Request) → asked kind v ≡ Some r → r.kind ≡ kind
-asked_kind kind v r is = go (bytes_eq v (default_name kind)) (is_spelling v) is
+asked_kind kind v r is = go (is_default kind v) (is_spelling v) is
   where
     of : (q : Request) → q.kind ≡ kind → Some q ≡ Some r → r.kind ≡ kind
     of q same is = let e : q ≡ r = cc in ap (λ (x : Request). x.kind) (sym e) ∙ same

@@ -14,7 +14,7 @@ use Rattle.ct_base.specs.Limits.{name_limit}
 use Rattle.ct_base.specs.Names.{is_name_byte, is_spelling}
 use Rattle.ct_base.specs.laws.Bools.{same_tests}
 use Rattle.tx_prefs.specs.declared.kinds.PrefKind.{PrefKind}
-use Rattle.tx_prefs.specs.Requests.{asked, default_name, onto_first, parts, request, without_empty, words}
+use Rattle.tx_prefs.specs.Requests.{asked, is_default, onto_first, parts, request, without_empty, words}
 use Rattle.tx_prefs.specs.RequestWords.{onto, read_word, word_unless_empty, words_behind}
 
 -- ---- where words end
@@ -168,7 +168,7 @@ spelt_by_bytes w utf8 = same_tests _ _
     ap (λ (l : List ℕ). is_spelling (map to_ascii_lowercase l)) own ∙ spelling_same w ∙ h)
 
 -- what a word asks for that isn't the name of the default
-module _ (kind : PrefKind) (w : List ℕ) (utf8 : IsUtf8 w) (other : bytes_eq (read_word w) (default_name kind) ≡ false) where
+module _ (kind : PrefKind) (w : List ℕ) (utf8 : IsUtf8 w) (other : is_default kind (read_word w) ≡ false) where
   by_spelling : asked kind (read_word w) ≡ cond (is_spelling w) (Some (request kind (Some (read_word w)))) None
   by_spelling = rw (other, spelt_by_bytes w utf8) refl
 

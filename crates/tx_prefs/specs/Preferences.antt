@@ -1,4 +1,4 @@
--- What is defined for indexes: lexer preferences, stoplists and section groups, by their names. Together they are called preferences here.
+-- What is defined for indexes: lexer preferences, stoplists, section groups and index sets, by their names. Together they are called preferences here.
 use Rattle.std.specs.Prelude.{ℕ, ◌≡◌, ◌==◌, nat_lt, List, [], ◌∷◌, ◌++◌, Option, Some, None, codes, refl}
 use Rattle.std.specs.Bool.{if◌then◌else◌}
 use Rattle.std.specs.FinMap.{insert, empty}
@@ -9,15 +9,16 @@ use Rattle.tx_settings.specs.declared.attributes.Setting.{Setting}
 use Rattle.tx_settings.specs.Attributes.{setting}
 use Rattle.tx_settings.specs.PrefsBytes.{attribute_place}
 
--- lexer preferences by their settings, stoplists by their words in the order in which they were added, and section groups
+-- lexer preferences by their settings, stoplists by their words and index sets by the columns of their sub-indexes, each in the order in which they were added, and section groups
 pub record Preferences : Type 0 where
   pub lexers : Names (List Setting)
   pub stoplists : Names (List (List ℕ))
   pub groups : Names SectionGroup
+  pub sets : Names (List (List (List ℕ)))
 
 -- as a new store has them
 abbrev pub no_preferences : Preferences
-no_preferences = record { lexers = empty; stoplists = empty; groups = empty }
+no_preferences = record { lexers = empty; stoplists = empty; groups = empty; sets = empty }
 
 -- ---- what procedures make of them
 
@@ -29,6 +30,9 @@ with_stoplist ps name words = record ps { stoplists = insert ps.stoplists name w
 
 abbrev pub with_group : Preferences → List ℕ → SectionGroup → Preferences
 with_group ps name group = record ps { groups = insert ps.groups name group }
+
+abbrev pub with_index_set : Preferences → List ℕ → List (List (List ℕ)) → Preferences
+with_index_set ps name set = record ps { sets = insert ps.sets name set }
 
 -- an attribute is set: in the order of attributes, and in place of the value that it had
 abbrev pub with_setting : Setting → List Setting → List Setting

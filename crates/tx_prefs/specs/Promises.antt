@@ -18,8 +18,8 @@ use Rattle.tx_settings.specs.declared.attributes.Attribute.{Attribute}
 use Rattle.tx_settings.specs.declared.attributes.Setting.{Setting}
 use Rattle.tx_settings.specs.Attributes.{setting, takes_value}
 use Rattle.tx_settings.specs.PrefsBytes.{are_lexer_settings, are_settings, attribute_place, has_text, is_named_group}
-use Rattle.tx_prefs.specs.Preferences.{Preferences, with_group, with_lexer, with_setting, with_stoplist}
-use Rattle.tx_prefs.specs.Spelling.{PreferencesStand, group_changes, lexer_changes, stoplist_changes}
+use Rattle.tx_prefs.specs.Preferences.{Preferences, with_group, with_lexer, with_index_set, with_setting, with_stoplist}
+use Rattle.tx_prefs.specs.Spelling.{PreferencesStand, group_changes, lexer_changes, set_changes, stoplist_changes}
 use Rattle.tx_prefs.specs.Rules.{ArePreferences, are_stopwords, is_stopword}
 use Rattle.tx_prefs.specs.Shapes.{HasPrefValue}
 use Rattle.tx_prefs.specs.laws.Changes.{is_of_preferences}
@@ -30,7 +30,7 @@ use Rattle.tx_prefs.specs.laws.Changes.{is_of_preferences}
 abbrev pub OnePreferences : Type 0
 OnePreferences = (f : Key → Option (List ℕ)) (ps qs : Preferences) → PreferencesStand f ps → PreferencesStand f qs → ArePreferences ps → ArePreferences qs → ps ≡ qs
 
--- after the changes of a preference, of a stoplist and of a section group
+-- after the changes of a preference, of a stoplist, of a section group and of an index set
 abbrev pub LexersStand : Type 0
 LexersStand = (f : Key → Option (List ℕ)) (ps : Preferences) (name : List ℕ) (settings : List Setting) → PreferencesStand f ps → PreferencesStand (view (lexer_changes name settings) f) (with_lexer ps name settings)
 
@@ -39,6 +39,9 @@ StoplistsStand = (f : Key → Option (List ℕ)) (ps : Preferences) (name : List
 
 abbrev pub GroupsStand : Type 0
 GroupsStand = (f : Key → Option (List ℕ)) (ps : Preferences) (name : List ℕ) (group : SectionGroup) → PreferencesStand f ps → PreferencesStand (view (group_changes name group) f) (with_group ps name group)
+
+abbrev pub SetsStand : Type 0
+SetsStand = (f : Key → Option (List ℕ)) (ps : Preferences) (name : List ℕ) (set : List (List (List ℕ))) → PreferencesStand f ps → PreferencesStand (view (set_changes name set) f) (with_index_set ps name set)
 
 -- changes of entries of other kinds leave them
 abbrev pub OthersLeaveThem : Type 0

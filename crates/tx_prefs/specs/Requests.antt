@@ -7,7 +7,7 @@ use Rattle.std.specs.Str.{chars}
 use lib.Utf8.{encode}
 use Rattle.ct_base.specs.Names.{is_spelling}
 use Rattle.tx_prefs.specs.declared.kinds.PrefKind.{PrefKind}
-use Rattle.tx_prefs.specs.declared.kinds.PrefKind.TheVariants.{Lexer, Stoplist, SectionGroup}
+use Rattle.tx_prefs.specs.declared.kinds.PrefKind.TheVariants.{Lexer, Stoplist, SectionGroup, IndexSet}
 use Rattle.tx_prefs.specs.declared.parameters.Parameters.{Parameters}
 use Rattle.tx_prefs.specs.declared.requests.Request.{Request}
 use Rattle.tx_prefs.specs.Preferences.{Preferences}
@@ -39,20 +39,22 @@ words text = without_empty (parts text)
 abbrev pub request : PrefKind → Option (List ℕ) → Request
 request kind name = record { kind = kind; name = name }
 
--- the name of the default of a kind
-abbrev pub default_name : PrefKind → List ℕ
-default_name Lexer = codes "ctxsys.default_lexer"
-default_name Stoplist = codes "ctxsys.empty_stoplist"
-default_name SectionGroup = codes "ctxsys.null_section_group"
+-- whether a word is the name of the default of a kind; index sets have no default
+abbrev pub is_default : PrefKind → List ℕ → Bool
+is_default Lexer word = bytes_eq word (codes "ctxsys.default_lexer")
+is_default Stoplist word = bytes_eq word (codes "ctxsys.empty_stoplist")
+is_default SectionGroup word = bytes_eq word (codes "ctxsys.null_section_group")
+is_default IndexSet word = false
 
 -- what a word asks for, if it is a name or that of the default
 abbrev pub asked : PrefKind → List ℕ → Option Request
-asked kind word = if bytes_eq word (default_name kind) then Some (request kind None) else (if is_spelling word then Some (request kind (Some word)) else None)
+asked kind word = if is_default kind word then Some (request kind None) else (if is_spelling word then Some (request kind (Some word)) else None)
 
 abbrev pub is_of : PrefKind → PrefKind → Bool
 is_of Lexer Lexer = true
 is_of Stoplist Stoplist = true
 is_of SectionGroup SectionGroup = true
+is_of IndexSet IndexSet = true
 is_of kind other = false
 
 -- whether there is none of the kind among them

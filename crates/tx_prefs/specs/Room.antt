@@ -1,4 +1,4 @@
--- How much room preferences, stoplists and section groups take: what their entries weigh.
+-- How much room preferences, stoplists, section groups and index sets take: what their entries weigh.
 use Rattle.std.specs.Prelude.{ℕ, ◌≡◌, sum_by, List, [], ◌∷◌, ◌++◌, map, replicate, codes, refl}
 use Rattle.std.proofs.Common.{ap, ◌∙◌}
 use Rattle.std.specs.Ordering.{nat_cmp}
@@ -13,6 +13,7 @@ use Rattle.ct_entry.specs.declared.kinds.Kind.{Kind}
 use Rattle.ct_entry.specs.declared.kinds.Kind.TheVariants as kind
 use Rattle.ct_entry.specs.Keys.{key, bytes}
 use Rattle.tx_settings.specs.PrefsBytes.{settings_bytes, words_bytes, group_bytes}
+use Rattle.tx_sets.specs.Sets.{set_bytes}
 use Rattle.tx_prefs.specs.Preferences.{Preferences, no_preferences}
 
 -- an entry by its key and value
@@ -32,9 +33,12 @@ stoplist_entries ps = map (named_entry kind.Stoplists words_bytes) (entries ps.s
 abbrev pub group_entries : Preferences → List PreferenceEntry
 group_entries ps = map (named_entry kind.SectionGroups group_bytes) (entries ps.groups)
 
+abbrev pub set_entries : Preferences → List PreferenceEntry
+set_entries ps = map (named_entry kind.IndexSets set_bytes) (entries ps.sets)
+
 -- all entries of preferences
 abbrev pub preference_entries : Preferences → List PreferenceEntry
-preference_entries ps = lexer_entries ps ++ (stoplist_entries ps ++ group_entries ps)
+preference_entries ps = lexer_entries ps ++ (stoplist_entries ps ++ (group_entries ps ++ set_entries ps))
 
 abbrev pub preferences_room : Preferences → ℕ
 preferences_room ps = sum_by entry_weight (preference_entries ps)
@@ -44,9 +48,10 @@ preferences_room ps = sum_by entry_weight (preference_entries ps)
 -- a new store has none
 pub no_room : preferences_room no_preferences ≡ 0
 no_room =
-    ap (λ (es : List (List ℕ × List Setting)). sum_by entry_weight (map (named_entry kind.Preferences settings_bytes) es ++ (stoplist_entries no_preferences ++ group_entries no_preferences))) (entries-none (slice_cmp nat_cmp))
-    ∙ ap (λ (es : List (List ℕ × List (List ℕ))). sum_by entry_weight (map (named_entry kind.Stoplists words_bytes) es ++ group_entries no_preferences)) (entries-none (slice_cmp nat_cmp))
-    ∙ ap (λ (es : List (List ℕ × SectionGroup)). sum_by entry_weight (map (named_entry kind.SectionGroups group_bytes) es)) (entries-none (slice_cmp nat_cmp))
+    ap (λ (es : List (List ℕ × List Setting)). sum_by entry_weight (map (named_entry kind.Preferences settings_bytes) es ++ (stoplist_entries no_preferences ++ (group_entries no_preferences ++ set_entries no_preferences)))) (entries-none (slice_cmp nat_cmp))
+    ∙ ap (λ (es : List (List ℕ × List (List ℕ))). sum_by entry_weight (map (named_entry kind.Stoplists words_bytes) es ++ (group_entries no_preferences ++ set_entries no_preferences))) (entries-none (slice_cmp nat_cmp))
+    ∙ ap (λ (es : List (List ℕ × SectionGroup)). sum_by entry_weight (map (named_entry kind.SectionGroups group_bytes) es ++ set_entries no_preferences)) (entries-none (slice_cmp nat_cmp))
+    ∙ ap (λ (es : List (List ℕ × List (List (List ℕ)))). sum_by entry_weight (map (named_entry kind.IndexSets set_bytes) es)) (entries-none (slice_cmp nat_cmp))
 
 a_short_list : entry_weight (named_entry kind.Stoplists words_bytes (codes "sl", codes "is" ∷ [])) ≡ 64
 unfolding varint

@@ -1,4 +1,4 @@
--- The rules that preferences, stoplists and section groups keep in every state.
+-- The rules that preferences, stoplists, section groups and index sets keep in every state.
 use Rattle.std.specs.Prelude.{ℕ, ◌≡◌, ◌≤◌, Bool, true, false, ◌&&◌, nat_le, List, [], ◌∷◌, length, Some, codes, refl, replicate}
 use Rattle.std.specs.List.{list_all}
 use Rattle.std.specs.FinMap.{get, entries}
@@ -14,9 +14,10 @@ use Rattle.tx_settings.specs.declared.attributes.Attribute.TheVariants.{MixedCas
 use Rattle.tx_settings.specs.Attributes.{setting}
 use Rattle.tx_settings.specs.PrefsBytes.{are_lexer_settings, is_named_group}
 use Rattle.tx_settings.specs.PrefsPromises.{stopword_limit}
+use Rattle.tx_sets.specs.Sets.{is_index_set}
 use Rattle.tx_prefs.specs.Preferences.{Preferences}
 
--- how many preferences, stoplists and groups there are at most, each for itself
+-- how many preferences, stoplists, groups and index sets there are at most, each for itself
 abbrev pub preference_limit : ℕ
 preference_limit = 256
 
@@ -37,6 +38,7 @@ pub record ArePreferences (ps : Preferences) : Type 0 where
   pub lexers : AreNamed are_lexer_settings ps.lexers
   pub stoplists : AreNamed are_stopwords ps.stoplists
   pub groups : AreNamed is_named_group ps.groups
+  pub sets : AreNamed is_index_set ps.sets
 
 -- computed examples
 two_settings : are_lexer_settings (setting MixedCase (codes "Yes") ∷ setting Skipjoins (codes "-") ∷ []) ≡ true

@@ -9,7 +9,7 @@ use Rattle.ct_keep.specs.declared.keepers.KeepFault.{KeepFault}
 use Rattle.ct_keep.specs.KeeperViews.{KeeperView, Finds}
 use Rattle.ct_entry.specs.Keys.{at, HasKeysOnly}
 use Rattle.tx_prefs.specs.declared.kinds.PrefKind.{PrefKind}
-use Rattle.tx_prefs.specs.declared.kinds.PrefKind.TheVariants.{Lexer, Stoplist, SectionGroup}
+use Rattle.tx_prefs.specs.declared.kinds.PrefKind.TheVariants.{Lexer, Stoplist, SectionGroup, IndexSet}
 use Rattle.tx_prefs.specs.Preferences.{Preferences, no_preferences}
 use Rattle.tx_prefs.specs.Spelling.{PreferencesStand}
 use Rattle.tx_prefs.specs.Rules.{ArePreferences, preference_limit}
@@ -29,12 +29,14 @@ abbrev pub has_named : PrefKind → List ℕ → Preferences → Bool
 has_named Lexer name ps = is_some (get ps.lexers name)
 has_named Stoplist name ps = is_some (get ps.stoplists name)
 has_named SectionGroup name ps = is_some (get ps.groups name)
+has_named IndexSet name ps = is_some (get ps.sets name)
 
 -- how many there are of a kind
 abbrev pub named_count : PrefKind → Preferences → ℕ
 named_count Lexer ps = length (entries ps.lexers)
 named_count Stoplist ps = length (entries ps.stoplists)
 named_count SectionGroup ps = length (entries ps.groups)
+named_count IndexSet ps = length (entries ps.sets)
 
 -- whether there are as many as there may be
 abbrev pub is_kind_full : PrefKind → Preferences → Bool

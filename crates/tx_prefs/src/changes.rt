@@ -6,12 +6,14 @@ ghost use Rattle.ct_entry.specs.Keys.{key};
 ghost use Rattle.ct_entry.specs.Shapes.{AreShaped};
 ghost use Rattle.tx_settings.specs.PrefsBytes.{are_settings, are_words, settings_bytes, words_bytes};
 ghost use Rattle.tx_prefs.specs.Shapes.{HasPrefValue};
-ghost use Rattle.tx_prefs.specs.Spelling.{MakesBatch, lexer_changes, stoplist_changes, group_changes};
+ghost use Rattle.tx_sets.specs.Sets.{are_sub_indexes};
+ghost use Rattle.tx_prefs.specs.Spelling.{MakesBatch, lexer_changes, stoplist_changes, group_changes, set_changes};
 
 use ct_base::{Memory, Name, Text};
 use ct_entry::{Kind, put_entry};
 use ct_keep::{Batch, VALUE_LIMIT};
 use std::alloc::Global;
+use tx_sets::{SubIndex, keep_names as keep_set_names, put_set};
 use tx_settings::{Setting, keep_names, put_group as group_bytes, put_settings, put_words};
 use tx_tags::Group;
 
@@ -70,4 +72,17 @@ pub fn group_changes(alloc: Global, name: &Name, group: &Group) -> Result<Batch,
     let mut value = Vec::new(alloc);
     group_bytes(&mut value, group)?;
     change(alloc, Kind::SectionGroups, name, value)
+}
+
+/// The batch that stores the sub-indexes of an index set under this name, in place of what it had.
+pub fn set_changes(alloc: Global, name: &Name, set: &[SubIndex]) -> Result<Batch, Memory>
+    requires { are_sub_indexes set.now ≡ true }
+    ensures changes { IfOk result (λ batch. batch ≡ spell (set_changes name.now set.now)) }
+    ensures shaped { IfOk result (AreShaped HasPrefValue) }
+{
+    let _named = name.as_str();
+    keep_set_names(set);
+    let mut value = Vec::new(alloc);
+    put_set(&mut value, set)?;
+    change(alloc, Kind::IndexSets, name, value)
 }

@@ -12,6 +12,7 @@ pub enum PrefKind {
     Lexer,
     Stoplist,
     SectionGroup,
+    IndexSet,
 }
 
 impl PrefKind {
@@ -23,6 +24,7 @@ impl PrefKind {
             PrefKind::Lexer => Kind::Preferences,
             PrefKind::Stoplist => Kind::Stoplists,
             PrefKind::SectionGroup => Kind::SectionGroups,
+            PrefKind::IndexSet => Kind::IndexSets,
         }
     }
 }

@@ -1,14 +1,15 @@
 //! What holds of all preferences. Each function here only states laws, which its contract proves.
 
 ghost use Rattle.ct_entry.specs.declared.kinds.Kind.TheVariants as kind;
-ghost use Rattle.tx_prefs.specs.Promises.{EntriesAreWell, FlagsStay, GroupsStand, GroupsStay, LexersStand, OnePreferences, OthersLeaveThem, SectionsKeepTheirKind, SettingsStayInOrder, SettingsStayTaken, StoplistsStand, StopwordsStay, TagsJoinTheirSection, TheLastValueCounts};
+ghost use Rattle.tx_prefs.specs.Promises.{EntriesAreWell, FlagsStay, GroupsStand, GroupsStay, LexersStand, OnePreferences, OthersLeaveThem, SectionsKeepTheirKind, SetsStand, SettingsStayInOrder, SettingsStayTaken, StoplistsStand, StopwordsStay, TagsJoinTheirSection, TheLastValueCounts};
 
-/// Where entries spell preferences, the changes of a lexer preference, a stoplist or a section group make them spell the
-/// preferences with it; and changes of entries of other kinds leave them.
+/// Where entries spell preferences, the changes of a lexer preference, a stoplist, a section group or an index set make them spell
+/// the preferences with it; and changes of entries of other kinds leave them.
 pub fn changes_stand()
     ensures lexers { LexersStand }
     ensures stoplists { StoplistsStand }
     ensures groups { GroupsStand }
+    ensures sets { SetsStand }
     ensures others { OthersLeaveThem }
 {}
 
@@ -18,6 +19,7 @@ pub fn entries_are_exact()
     ensures lexers { EntriesAreWell kind.Preferences }
     ensures stoplists { EntriesAreWell kind.Stoplists }
     ensures groups { EntriesAreWell kind.SectionGroups }
+    ensures sets { EntriesAreWell kind.IndexSets }
 {}
 
 /// Settings with one more, stopwords with one more, and a section group with one tag more or with other flags keep their rules,

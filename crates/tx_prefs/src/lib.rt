@@ -1,4 +1,4 @@
-//! Lexer preferences, stoplists and section groups as stored entries, and the preferences that an index copies from them.
+//! Lexer preferences, stoplists, section groups and index sets as stored entries, and the preferences that an index copies from them.
 #![tactic(auto)]
 
 mod changes;
@@ -14,11 +14,13 @@ mod shapes;
 mod unknown_names;
 mod words;
 
-pub use changes::{group_changes, lexer_changes, stoplist_changes};
+pub use changes::{group_changes, lexer_changes, set_changes, stoplist_changes};
 pub use copying::copy;
 pub use kinds::PrefKind;
 pub use laws::{changes_stand, entries_are_exact, others_stay, rules_stay};
-pub use lookups::{has_named, is_kind_full, lexer_settings, section_group, stoplist_words};
+pub use lookups::{
+    has_named, index_set, is_kind_full, lexer_settings, section_group, stoplist_words,
+};
 pub use parameters::Parameters;
 pub use requests::{Request, read_requests, requested_parameters};
 pub use settings::with_setting;

@@ -1,4 +1,4 @@
-//! Lexer preferences, stoplists and section groups by their names, as a keeper has them.
+//! Lexer preferences, stoplists, section groups and index sets by their names, as a keeper has them.
 #![tactic(auto, using(ct_keep::specs::laws::Composing::reads_on, ct_keep::specs::laws::Composing::reads_short))]
 
 ghost use Rattle.std.specs.Prelude.{◌≡◌, true, IfOk, IfSome, length, nat_le};
@@ -10,15 +10,16 @@ ghost use Rattle.tx_prefs.specs.Rules.{preference_limit};
 ghost use Rattle.tx_prefs.specs.Sees.{SeesPreferences, has_named as is_named, is_kind_full};
 
 use crate::kinds::PrefKind;
-use crate::reading::{group_in, settings_in, words_in};
+use crate::reading::{group_in, set_in, settings_in, words_in};
 use ct_base::{Name, Text};
 use ct_entry::{Kind, fetch_entry, has_entry, owners};
 use ct_keep::{KeepFault, Keeper};
 use std::alloc::Global;
+use tx_sets::SubIndex;
 use tx_settings::Setting;
 use tx_tags::Group;
 
-/// How many preferences, stoplists and section groups there are at most, each for itself.
+/// How many preferences, stoplists, section groups and index sets there are at most, each for itself.
 const PREFERENCE_LIMIT: usize = 256;
 
 /// The settings of a lexer preference, in the order of their attributes. None where there is no such preference. It never
@@ -73,6 +74,24 @@ pub fn section_group<K: Keeper>(
     };
     let group = group_in(alloc, &value)?;
     Ok(group)
+}
+
+/// The sub-indexes of an index set, in the order in which they were added. None where there is no such index set. In a store that no
+/// state has it may also give more than an index set has, or such that have more columns or none. It never answers Full.
+pub fn index_set<K: Keeper>(
+    alloc: Global,
+    keeper: &mut K,
+    name: &Name,
+) -> Result<Option<Vec<SubIndex>>, KeepFault>
+    requires { (K.view keeper.old).ready }
+    ensures set { SeesPreferences K.view keeper.old result (λ ps found. option_map (λ v. v.items) found ≡ get ps.sets name.now) }
+    ensures reads { OnlyReads K.view keeper.old keeper.new result }
+{
+    let Some(value) = fetch_entry(alloc, keeper, Kind::IndexSets, name, &[])? else {
+        return Ok(None);
+    };
+    let set = set_in(alloc, &value)?;
+    Ok(set)
 }
 
 /// Whether there is one of this kind and name. It never answers Full.

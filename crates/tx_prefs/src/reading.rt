@@ -1,12 +1,14 @@
-//! Preferences, stoplists and section groups from the values of entries.
+//! Preferences, stoplists, section groups and index sets from the values of entries.
 
 ghost use Rattle.std.specs.Prelude.{IfOk, Some};
 ghost use Rattle.std.specs.Option.{option_map};
 ghost use Rattle.tx_settings.specs.PrefsBytes.{are_settings, are_words, group_bytes, is_named_group, settings_bytes, words_bytes};
+ghost use Rattle.tx_sets.specs.Sets.{are_lists, set_bytes};
 ghost use Rattle.tx_prefs.specs.Readings.{EntrySpells};
 
 use ct_base::{Memory, Text};
 use std::alloc::Global;
+use tx_sets::{SubIndex, read_set};
 use tx_settings::{Setting, read_group, read_settings, read_words};
 use tx_tags::Group;
 
@@ -47,6 +49,20 @@ pub(crate) fn group_in(alloc: Global, bytes: &[u8]) -> Result<Option<Group>, Mem
     };
     if end == bytes.len() {
         Ok(Some(group))
+    } else {
+        Ok(None)
+    }
+}
+
+/// The sub-indexes that the bytes spell; None where they spell none.
+pub(crate) fn set_in(alloc: Global, bytes: &[u8]) -> Result<Option<Vec<SubIndex>>, Memory>
+    ensures { IfOk result (λ found. EntrySpells are_lists set_bytes (Some bytes.now) (option_map (λ v. v.items) found)) }
+{
+    let Some((set, end)) = read_set(alloc, bytes, 0)? else {
+        return Ok(None);
+    };
+    if end == bytes.len() {
+        Ok(Some(set))
     } else {
         Ok(None)
     }

@@ -4,7 +4,7 @@ ghost use Rattle.std.specs.Prelude.{◌≡◌, ◌<◌, [], true, IfOk, IfSome, 
 ghost use Rattle.std.specs.List.{list_all};
 ghost use Rattle.std.specs.Option.{option_map};
 ghost use Rattle.std.specs.Char.{to_ascii_lowercase};
-ghost use Rattle.tx_prefs.specs.Requests.{asked, default_name, is_free, is_of, name_for, requested_parameters, requests_from, requests_of};
+ghost use Rattle.tx_prefs.specs.Requests.{asked, is_default, is_free, is_of, name_for, requested_parameters, requests_from, requests_of};
 ghost use Rattle.tx_prefs.specs.RequestWords.{first_request, keyword, read_word};
 
 use crate::kinds::PrefKind;
@@ -115,7 +115,7 @@ fn keyword(words: &[Text]) -> Option<(PrefKind, &[Text])>
 fn request_of(alloc: Global, kind: PrefKind, word: &Text) -> Result<Option<Request>, Memory>
     ensures { IfOk result (λ found. found ≡ asked kind (read_word word.now)) }
 {
-    if is_word(word, default_name(kind)) {
+    if is_default(kind, word) {
         return Ok(Some(Request { kind, name: None }));
     }
     match Name::read(alloc, word.as_str()) {
@@ -128,16 +128,15 @@ fn request_of(alloc: Global, kind: PrefKind, word: &Text) -> Result<Option<Reque
     }
 }
 
-/// The name of the default of a kind.
-fn default_name(kind: PrefKind) -> &'static str
-    ensures name { result.now ≡ default_name kind }
-    ensures lower { map to_ascii_lowercase result.now ≡ result.now }
-    ensures ascii { list_all (λ b. nat_lt b 128) result.now ≡ true }
+/// Whether a word is the name of the default of a kind; index sets have no default.
+fn is_default(kind: PrefKind, word: &Text) -> bool
+    ensures { result ≡ is_default kind (read_word word.now) }
 {
     match kind {
-        PrefKind::Lexer => "ctxsys.default_lexer",
-        PrefKind::Stoplist => "ctxsys.empty_stoplist",
-        PrefKind::SectionGroup => "ctxsys.null_section_group",
+        PrefKind::Lexer => is_word(word, "ctxsys.default_lexer"),
+        PrefKind::Stoplist => is_word(word, "ctxsys.empty_stoplist"),
+        PrefKind::SectionGroup => is_word(word, "ctxsys.null_section_group"),
+        PrefKind::IndexSet => false,
     }
 }
 

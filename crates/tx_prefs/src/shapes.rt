@@ -4,14 +4,14 @@ ghost use Rattle.std.specs.Prelude.{IsTrue, ◌↔◌, IfOk};
 ghost use Rattle.ct_entry.specs.declared.kinds.Kind.TheVariants as kind;
 ghost use Rattle.tx_prefs.specs.Shapes.{IsPrefShape};
 
-use crate::reading::{group_in, settings_in, words_in};
+use crate::reading::{group_in, set_in, settings_in, words_in};
 use ct_base::Memory;
 use ct_entry::Kind;
 use std::alloc::Global;
 
-/// Whether an entry of this kind, with this rest of its key and this value, is one of a preference, a stoplist or a section group
-/// and well shaped. That its owner is a name isn't tested. Its cost is the length of the value, and for a section group the
-/// square of the number of its tags too.
+/// Whether an entry of this kind, with this rest of its key and this value, is one of a preference, a stoplist, a section group or
+/// an index set and well shaped. That its owner is a name isn't tested. Its cost is the length of the value, and for a section group
+/// the square of the number of its tags too.
 pub fn is_pref_shape(alloc: Global, kind: Kind, part: &[u8], value: &[u8]) -> Result<bool, Memory>
     ensures { IfOk result (λ is. IsTrue is ↔ IsPrefShape kind part.now value.now) }
 {
@@ -19,6 +19,7 @@ pub fn is_pref_shape(alloc: Global, kind: Kind, part: &[u8], value: &[u8]) -> Re
         Kind::Preferences => is_lexer(alloc, part, value),
         Kind::Stoplists => is_stoplist(alloc, part, value),
         Kind::SectionGroups => is_group(alloc, part, value),
+        Kind::IndexSets => is_set(alloc, part, value),
         _ => Ok(false),
     }
 }
@@ -54,4 +55,15 @@ fn is_group(alloc: Global, part: &[u8], value: &[u8]) -> Result<bool, Memory>
     }
     let group = group_in(alloc, value)?;
     Ok(group.is_some())
+}
+
+/// Whether the entry of an index set is well shaped, whose key has no rest.
+fn is_set(alloc: Global, part: &[u8], value: &[u8]) -> Result<bool, Memory>
+    ensures { IfOk result (λ is. IsTrue is ↔ IsPrefShape kind.IndexSets part.now value.now) }
+{
+    if !part.is_empty() {
+        return Ok(false);
+    }
+    let set = set_in(alloc, value)?;
+    Ok(set.is_some())
 }

@@ -318,7 +318,7 @@ module _ (c : Content) (m : StoreState) (t : List ℕ) (x : Table) (assigns : Li
           tables = subst (λ (f : Key → Option (List ℕ)). TablesStand f us) (sym (at_view ws c))
               (tables_stand rows distinct there (at c) m.tables stands.state.tables (λ q. refl) (λ r among. refl) stands.tables);
           indexes = subst (λ (f : Key → Option (List ℕ)). IndexesStand f us ys) (sym (at_view ws c)) hold.stand;
-          preferences = subst (λ (f : Key → Option (List ℕ)). PreferencesStand f m.preferences) (sym (at_view ws c)) (preferences_frame is_of_update ws (at c) m.preferences (updates_kinds rows) (other_kinds is_of_update refl refl refl) stands.preferences);
+          preferences = subst (λ (f : Key → Option (List ℕ)). PreferencesStand f m.preferences) (sym (at_view ws c)) (preferences_frame is_of_update ws (at c) m.preferences (updates_kinds rows) (other_kinds is_of_update refl refl refl refl) stands.preferences);
           thesauri = thesauri_unchanged is_of_update ws c m.thesauri (updates_kinds rows) refl refl stands.thesauri;
           short_rows = subst HasShortRows (sym (at_view ws c)) (rows_frame is_of_update ws (at c) (updates_kinds rows) update_rows stands.short_rows);
           state = record {

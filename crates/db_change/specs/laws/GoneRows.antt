@@ -232,7 +232,7 @@ gone_rows_stand c m t x rows stands here once there =
           (tables_without (at c) m.tables t x (λ r. heads_changes (at c) r Goes es) (λ r. notes_of_map (at c) r Goes es) rows here stands.state.tables (λ r among. row_is_row m.tables stands.state.tables t r (there r among)) stands.tables);
       indexes = subst (λ (f : Key → Option (List ℕ)). IndexesStand f (tables_after (lose_row t) m.tables rows) (indexes_after kinds (every kinds) (lose_row t) m.tables t rows m.indexes)) (sym seen) hold.stand;
       unbuilt = λ k h. at-after ws c k ∙ told_frame is_of_row ws k (at c k) (all_rows (at c) t x.columns es rows) (row_built k.kind h) ∙ stands.unbuilt k h;
-      preferences = subst (λ (f : Key → Option (List ℕ)). PreferencesStand f m.preferences) (sym seen) (preferences_frame is_of_row ws (at c) m.preferences (all_rows (at c) t x.columns es rows) (other_kinds is_of_row refl refl refl) stands.preferences);
+      preferences = subst (λ (f : Key → Option (List ℕ)). PreferencesStand f m.preferences) (sym seen) (preferences_frame is_of_row ws (at c) m.preferences (all_rows (at c) t x.columns es rows) (other_kinds is_of_row refl refl refl refl) stands.preferences);
       thesauri = thesauri_unchanged is_of_row ws c m.thesauri (all_rows (at c) t x.columns es rows) refl refl stands.thesauri;
       short_rows = subst HasShortRows (sym seen) (rows_frame is_of_row ws (at c) (all_rows (at c) t x.columns es rows) row_rows stands.short_rows);
       state = record {

@@ -199,7 +199,7 @@ new_row_stands c m t x r vs stands is none row fit room =
           ∙ told_frame is_of_map b k (told a k (at c k)) all (map_built k.kind h)
           ∙ told_frame is_of_tables a k (at c k) (all_insert t r (numbers_of vs) (texts_of vs)) (tables_built k.kind h)
           ∙ stands.unbuilt k h;
-      preferences = subst (λ (f : Key → Option (List ℕ)). PreferencesStand f m.preferences) (sym seen) (preferences_frame is_of_map b (view a (at c)) m.preferences all (other_kinds is_of_map refl refl refl) (preferences_frame is_of_tables a (at c) m.preferences (all_insert t r (numbers_of vs) (texts_of vs)) (other_kinds is_of_tables refl refl refl) stands.preferences));
+      preferences = subst (λ (f : Key → Option (List ℕ)). PreferencesStand f m.preferences) (sym seen) (preferences_frame is_of_map b (view a (at c)) m.preferences all (other_kinds is_of_map refl refl refl refl) (preferences_frame is_of_tables a (at c) m.preferences (all_insert t r (numbers_of vs) (texts_of vs)) (other_kinds is_of_tables refl refl refl refl) stands.preferences));
       thesauri = subst (λ (f : Key → Option (List ℕ)). ThesauriStand f m.thesauri) (sym seen)
           (others_leave_thesauri is_of_map b (view a (at c)) m.thesauri all refl refl (others_leave_thesauri is_of_tables a (at c) m.thesauri (all_insert t r (numbers_of vs) (texts_of vs)) refl refl stands.thesauri));
       short_rows = subst HasShortRows (sym seen) (rows_frame is_of_map b (view a (at c)) all map_rows (rows_frame is_of_tables a (at c) (all_insert t r (numbers_of vs) (texts_of vs)) rows_tables stands.short_rows));

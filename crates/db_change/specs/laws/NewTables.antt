@@ -91,7 +91,7 @@ new_table_stands c m t columns stands none free name are few =
           (indexes_frame kinds context_alone is_of_tables ws (at c) (with_table m.tables t columns) m.indexes (all_create t columns) apart
           (table_stands kinds context_laws (at c) m.tables m.indexes t columns none stands.state.indexes stands.indexes));
       unbuilt = λ k h. at-after ws c k ∙ told_frame is_of_tables ws k (at c k) (all_create t columns) (tables_built k.kind h) ∙ stands.unbuilt k h;
-      preferences = subst (λ (f : Key → Option (List ℕ)). PreferencesStand f m.preferences) (sym (at_view ws c)) (preferences_frame is_of_tables ws (at c) m.preferences (all_create t columns) (other_kinds is_of_tables refl refl refl) stands.preferences);
+      preferences = subst (λ (f : Key → Option (List ℕ)). PreferencesStand f m.preferences) (sym (at_view ws c)) (preferences_frame is_of_tables ws (at c) m.preferences (all_create t columns) (other_kinds is_of_tables refl refl refl refl) stands.preferences);
       thesauri = thesauri_unchanged is_of_tables ws c m.thesauri (all_create t columns) refl refl stands.thesauri;
       short_rows = subst HasShortRows (sym (at_view ws c)) (rows_frame is_of_tables ws (at c) (all_create t columns) rows_tables stands.short_rows);
       state = record {

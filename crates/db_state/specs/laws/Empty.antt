@@ -16,6 +16,7 @@ use Rattle.tb_table.specs.Spelling.{TablesStand}
 use Rattle.tb_table.specs.Rules.{AreTables}
 use Rattle.ix_indexes.specs.Indexes.{Index, StandsUnder, IndexesStand, AreIndexes}
 use Rattle.tx_settings.specs.PrefsBytes.{are_lexer_settings, settings_bytes, words_bytes, group_bytes, is_named_group}
+use Rattle.tx_sets.specs.Sets.{is_index_set, set_bytes}
 use Rattle.tx_prefs.specs.Spelling.{NamesStand}
 use Rattle.tx_prefs.specs.Rules.{AreNamed, are_stopwords}
 use Rattle.th_store.specs.laws.Changes.{no_thesaurus_stands}
@@ -92,7 +93,7 @@ empty_stands = record {
   unbuilt = λ k h. not_there (bytes k);
   tables = tables_stand;
   indexes = indexes_stand;
-  preferences = record { lexers = nothing_named kind.Preferences settings_bytes; stoplists = nothing_named kind.Stoplists words_bytes; groups = nothing_named kind.SectionGroups group_bytes };
+  preferences = record { lexers = nothing_named kind.Preferences settings_bytes; stoplists = nothing_named kind.Stoplists words_bytes; groups = nothing_named kind.SectionGroups group_bytes; sets = nothing_named kind.IndexSets set_bytes };
   thesauri = no_thesaurus_stands (at no_content) (λ k of. no_key k);
   short_rows = λ k v h has. let wrong : None ≡ Some v = sym (no_key k) ∙ has in absurd cc;
   state = record {
@@ -100,7 +101,7 @@ empty_stands = record {
     indexes = are_indexes;
     views = λ t x is. absurd (not_found t x is);
     few = λ t. let e = ap (λ (es : List (List ℕ × Index)). length (filter (λ e. same_list e.1.table t) es)) (no_entries {X = Index}) in omega (arith, e);
-    preferences = record { lexers = none_named are_lexer_settings; stoplists = none_named are_stopwords; groups = none_named is_named_group };
+    preferences = record { lexers = none_named are_lexer_settings; stoplists = none_named are_stopwords; groups = none_named is_named_group; sets = none_named is_index_set };
     thesauri = no_thesauri_are;
   };
 }

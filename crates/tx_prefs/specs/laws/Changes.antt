@@ -14,14 +14,16 @@ use Rattle.ct_entry.specs.laws.Changes.{told_frame}
 use Rattle.tx_tags.specs.Groups.{SectionGroup}
 use Rattle.tx_settings.specs.declared.attributes.Setting.{Setting}
 use Rattle.tx_settings.specs.PrefsBytes.{settings_bytes, words_bytes, group_bytes}
-use Rattle.tx_prefs.specs.Preferences.{Preferences, with_lexer, with_stoplist, with_group}
-use Rattle.tx_prefs.specs.Spelling.{NamesStand, PreferencesStand, lexer_changes, stoplist_changes, group_changes}
+use Rattle.tx_sets.specs.Sets.{set_bytes}
+use Rattle.tx_prefs.specs.Preferences.{Preferences, with_lexer, with_stoplist, with_group, with_index_set}
+use Rattle.tx_prefs.specs.Spelling.{NamesStand, PreferencesStand, lexer_changes, stoplist_changes, group_changes, set_changes}
 
 -- the kinds of preferences
 abbrev pub is_of_preferences : Kind → Bool
 is_of_preferences kind.Preferences = true
 is_of_preferences kind.Stoplists = true
 is_of_preferences kind.SectionGroups = true
+is_of_preferences kind.IndexSets = true
 is_of_preferences k = false
 
 -- only the entries of these kinds matter
@@ -30,14 +32,16 @@ preferences_agree f g ps same stand = record {
   lexers = λ n. same (key kind.Preferences n []) refl ∙ stand.lexers n;
   stoplists = λ n. same (key kind.Stoplists n []) refl ∙ stand.stoplists n;
   groups = λ n. same (key kind.SectionGroups n []) refl ∙ stand.groups n;
+  sets = λ n. same (key kind.IndexSets n []) refl ∙ stand.sets n;
 }
 
 -- a test of kinds that takes none of these
-pub other_kinds : (p : Kind → Bool) → p kind.Preferences ≡ false → p kind.Stoplists ≡ false → p kind.SectionGroups ≡ false → (k : Kind) → is_of_preferences k ≡ true → p k ≡ false
-other_kinds p a b c kind.Preferences h = a
-other_kinds p a b c kind.Stoplists h = b
-other_kinds p a b c kind.SectionGroups h = c
-other_kinds p a b c k h = cc
+pub other_kinds : (p : Kind → Bool) → p kind.Preferences ≡ false → p kind.Stoplists ≡ false → p kind.SectionGroups ≡ false → p kind.IndexSets ≡ false → (k : Kind) → is_of_preferences k ≡ true → p k ≡ false
+other_kinds p a b c d kind.Preferences h = a
+other_kinds p a b c d kind.Stoplists h = b
+other_kinds p a b c d kind.SectionGroups h = c
+other_kinds p a b c d kind.IndexSets h = d
+other_kinds p a b c d k h = cc
 
 -- changes on other kinds change nothing
 pub preferences_frame : (p : Kind → Bool) (ws : List (Key × Option (List ℕ))) (f : Key → Option (List ℕ)) (ps : Preferences) → AllOf p ws → ((k : Kind) → is_of_preferences k ≡ true → p k ≡ false) → PreferencesStand f ps → PreferencesStand (view ws f) ps
@@ -61,6 +65,7 @@ lexer_stands f ps name settings stand = record {
   lexers = names_put f kind.Preferences settings_bytes ps.lexers name settings stand.lexers;
   stoplists = stand.stoplists;
   groups = stand.groups;
+  sets = stand.sets;
 }
 
 pub stoplist_stands : (f : Key → Option (List ℕ)) (ps : Preferences) (name : List ℕ) (words : List (List ℕ)) → PreferencesStand f ps → PreferencesStand (view (stoplist_changes name words) f) (with_stoplist ps name words)
@@ -68,6 +73,7 @@ stoplist_stands f ps name words stand = record {
   lexers = stand.lexers;
   stoplists = names_put f kind.Stoplists words_bytes ps.stoplists name words stand.stoplists;
   groups = stand.groups;
+  sets = stand.sets;
 }
 
 pub group_stands : (f : Key → Option (List ℕ)) (ps : Preferences) (name : List ℕ) (group : SectionGroup) → PreferencesStand f ps → PreferencesStand (view (group_changes name group) f) (with_group ps name group)
@@ -75,4 +81,13 @@ group_stands f ps name group stand = record {
   lexers = stand.lexers;
   stoplists = stand.stoplists;
   groups = names_put f kind.SectionGroups group_bytes ps.groups name group stand.groups;
+  sets = stand.sets;
+}
+
+pub set_stands : (f : Key → Option (List ℕ)) (ps : Preferences) (name : List ℕ) (set : List (List (List ℕ))) → PreferencesStand f ps → PreferencesStand (view (set_changes name set) f) (with_index_set ps name set)
+set_stands f ps name set stand = record {
+  lexers = stand.lexers;
+  stoplists = stand.stoplists;
+  groups = stand.groups;
+  sets = names_put f kind.IndexSets set_bytes ps.sets name set stand.sets;
 }

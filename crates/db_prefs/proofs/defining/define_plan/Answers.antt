@@ -38,3 +38,9 @@ returns-in-AddFieldSection-clause-plan g c =
 
 pub returns-in-AddSpecialSection-clause-plan : goal.returns-in-AddSpecialSection-clause-plan
 returns-in-AddSpecialSection-clause-plan g c = rw c.in-AddSpecialSection.is c.special_plan.ensures.plan
+
+pub returns-in-CreateIndexSet-clause-plan : goal.returns-in-CreateIndexSet-clause-plan
+returns-in-CreateIndexSet-clause-plan g c = rw c.in-CreateIndexSet.is c.create_plan-in-CreateIndexSet.ensures.plan
+
+pub returns-in-AddIndex-clause-plan : goal.returns-in-AddIndex-clause-plan
+returns-in-AddIndex-clause-plan g c = rw c.in-AddIndex.is c.sub_index_plan.ensures.plan
