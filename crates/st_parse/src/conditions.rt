@@ -13,7 +13,7 @@ use ct_base::Name;
 use std::alloc::Global;
 
 /// The comparison that a sign stands for.
-fn comparison_of(sign: Symbol) -> Option<Compare>
+pub fn comparison_of(sign: Symbol) -> Option<Compare>
     ensures { result ≡ comparison_of sign }
 {
     match sign {

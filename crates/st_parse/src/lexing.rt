@@ -17,7 +17,7 @@ use std::alloc::{AllocFailed, Global};
 
 /// Why a text gave no lexemes.
 #[derive(Clone, Copy)]
-pub(crate) enum LexFault {
+pub enum LexFault {
     /// No lexeme begins at some place.
     NoLexeme,
     Memory,
@@ -104,8 +104,8 @@ fn read_digits(alloc: Global, text: &str) -> Result<(String, &str), Memory>
     Ok((digits, rest))
 }
 
-/// What follows the line: a newline, or nothing.
-fn after_line(text: &str) -> &str
+/// What follows the line: a newline, or nothing. It takes no memory, and its cost is the length of the line.
+pub fn after_line(text: &str) -> &str
     ensures { chars result.now ≡ after_run is_in_line (chars text.now) }
 {
     let mut rest = text;
@@ -204,8 +204,8 @@ fn sign_at(c: char, text: &str) -> Option<(Symbol, &str)>
     }
 }
 
-/// The lexeme at the beginning, and what follows it.
-fn lexeme_at(alloc: Global, text: &str) -> Result<(Lexeme, &str), LexFault>
+/// The lexeme at the beginning, and what follows it. Its cost is the length of the lexeme.
+pub fn lexeme_at(alloc: Global, text: &str) -> Result<(Lexeme, &str), LexFault>
     ensures gives { LexGives (λ x. (x.0, chars x.1.now)) result (lexeme_at (chars text.now)) }
     ensures shorter { IfOk result (λ x. length (chars x.1.now) < length (chars text.now)) }
 {
@@ -230,7 +230,7 @@ fn lexeme_at(alloc: Global, text: &str) -> Result<(Lexeme, &str), LexFault>
 }
 
 /// Whether a comment begins with this character and what follows it.
-fn begins_comment(c: char, after: &str) -> bool
+pub fn begins_comment(c: char, after: &str) -> bool
     ensures { result ≡ begins_comment c (chars after.now) }
 {
     c == '-' && is_next(after, '-')

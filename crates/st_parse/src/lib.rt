@@ -19,9 +19,11 @@ mod statements;
 mod updating;
 mod values;
 
+pub use conditions::comparison_of;
 pub use laws::{one_statement, statement_is_read, written_is_read};
 pub use lexemes::{Keyword, Lexeme, Symbol};
-pub use lexing::is_blank;
+pub use lexing::{LexFault, after_line, begins_comment, is_blank, lexeme_at};
+pub use numbers::{negated, number};
 pub use parsing::{StatementFault, parse};
 pub use procedures::{Definition, Procedure, ThesaurusCall};
 pub use statements::{

@@ -23,7 +23,7 @@ fn magnitude(digits: &[u8]) -> Option<u64>
 }
 
 /// The number of digits without a sign. Its cost is how many digits there are.
-pub(crate) fn number(digits: &Text) -> Whole
+pub fn number(digits: &Text) -> Whole
     ensures { result ≡ number digits.now }
 {
     match magnitude(digits.as_str().as_bytes()) {
@@ -33,7 +33,7 @@ pub(crate) fn number(digits: &Text) -> Whole
 }
 
 /// The number of digits after a minus. Its cost is how many digits there are.
-pub(crate) fn negated(digits: &Text) -> Whole
+pub fn negated(digits: &Text) -> Whole
     ensures { result ≡ negated digits.now }
 {
     match magnitude(digits.as_str().as_bytes()) {
