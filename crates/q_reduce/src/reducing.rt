@@ -12,7 +12,8 @@ ghost use Rattle.q_reduce.specs.Reducing.{near_query, define_query, kept_operand
 ghost use Rattle.q_reduce.specs.Results.{Reduces, context_of};
 
 use crate::faults::ReduceFault;
-use crate::operators::{Around, around_query, both_query, define_query, near_query, term};
+use crate::operators::Around::{Above, Weight, Within};
+use crate::operators::{around_query, both_query, define_query, near_query, term};
 use crate::phrases::{leaf_phrases, operand_phrases, operands};
 use crate::sections::section;
 use crate::thesauri::NamedThesaurus;
@@ -85,12 +86,10 @@ fn reduce_part(
             Ok(both_query(alloc, Op::Minus, a, b)?)
         }
         Query::Weight(tenths, a) => {
-            let a = reduce_part(alloc, a, ctx, inside)?;
-            Ok(around_query(alloc, Around::Weight(*tenths), a)?)
+            Ok(around_query(alloc, Weight(*tenths), reduce_part(alloc, a, ctx, inside)?)?)
         }
         Query::Above(number, a) => {
-            let a = reduce_part(alloc, a, ctx, inside)?;
-            Ok(around_query(alloc, Around::Above(*number), a)?)
+            Ok(around_query(alloc, Above(*number), reduce_part(alloc, a, ctx, inside)?)?)
         }
         Query::Near {
             operands,
@@ -100,7 +99,7 @@ fn reduce_part(
         Query::Within(name, a) => {
             let a = reduce_part(alloc, a, ctx, true)?;
             let place = section(ctx.group, name, inside)?;
-            Ok(around_query(alloc, Around::Within(place), a)?)
+            Ok(around_query(alloc, Within(place), a)?)
         }
         Query::Define(leaves, sum) => reduce_define(alloc, ctx, leaves.as_slice(), sum.as_slice()),
     }
