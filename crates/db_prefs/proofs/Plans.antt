@@ -17,7 +17,7 @@ use Rattle.tx_tags.specs.declared.groups.Section.{Section}
 use Rattle.tx_tags.specs.Groups.{SectionGroup as Group, is_among, is_group, is_reserved, is_tag, kind_of, section_limit, tag_names, tags_limit}
 use Rattle.tx_settings.specs.declared.attributes.Setting.{Setting}
 use Rattle.tx_settings.specs.PrefsBytes.{are_words, is_named_group, is_short, is_text, settings_bytes, words_bytes, are_lexer_settings}
-use Rattle.tx_sets.specs.Sets.{are_sub_indexes, is_index_set}
+use Rattle.tx_sets.specs.Sets.{are_sub_indexes}
 use Rattle.tx_prefs.specs.declared.kinds.PrefKind.{PrefKind}
 use Rattle.tx_prefs.specs.Preferences.{with_setting}
 use Rattle.tx_prefs.specs.Promises.{has_room, kind_count}
