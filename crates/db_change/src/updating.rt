@@ -24,7 +24,7 @@ use ct_base::{Memory, Name, RowKey, Text};
 use ct_keep::{Batch, KeepFault, Keeper};
 use db_cond::{Fault, rows_line};
 use db_names::{IndexHead, indexes_of};
-use db_rows::{row_numbers, keys_meeting};
+use db_rows::{keys_meeting, row_numbers};
 use db_state::{Plan, carry_out, column_place, table_columns};
 use ix_indexes::{RowEvent, row_notes};
 use st_parse::{Assign, Cond, Operand};

@@ -12,4 +12,4 @@ pub use checking::{conds_fault, fit_columns, has_beyond, sort_of, unknown_column
 pub use meeting::read_if_met;
 pub use reading::{RowRead, Shown, column_value, row_numbers};
 pub use sources::{Source, source_of};
-pub use walking::{MetRow, rows_meeting, keys_meeting};
+pub use walking::{MetRow, keys_meeting, rows_meeting};
