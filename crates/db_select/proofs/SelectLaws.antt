@@ -128,6 +128,13 @@ module _ (m : StoreState) (list : SelectList) (t : List ℕ) (preds : List Pred)
       ap (λ (o : Option Table). with_found o (UnknownName t) (λ (x : Table). refuse_by (first_unknown (list_columns list ++ map pred_column preds) x.columns) UnknownName (select_rows m t x list (search_in preds) (conds_in preds)))) there
       ∙ ap (λ (o : Option (List ℕ)). refuse_by o UnknownName (select_rows m t x list (search_in preds) (conds_in preds))) (ap (first_unknown (list_columns list ++ map pred_column preds)) same ∙ none)
 
+  -- a name of the list or of the predicates that the table hasn't
+  pub unknown : (name : List ℕ) → first_unknown (list_columns list ++ map pred_column preds) columns ≡ Some name → (line : List ℕ) → line ≡ refusal_line (UnknownName name) → line ≡ reply_by (select m list t preds)
+  unknown name some line is =
+      is ∙ sym (ap reply_by (
+      ap (λ (o : Option Table). with_found o (UnknownName t) (λ (x : Table). refuse_by (first_unknown (list_columns list ++ map pred_column preds) x.columns) UnknownName (select_rows m t x list (search_in preds) (conds_in preds)))) there
+      ∙ ap (λ (o : Option (List ℕ)). refuse_by o UnknownName (select_rows m t x list (search_in preds) (conds_in preds))) (ap (first_unknown (list_columns list ++ map pred_column preds)) same ∙ some)))
+
   pub table_reply : first_unknown (list_columns list ++ map pred_column preds) columns ≡ None → (search : Option Search) (conds : List Cond) → search ≡ search_in preds → conds ≡ conds_in preds
       → reply_by (select_rows m t x list search conds) ≡ reply_by (select m list t preds)
   table_reply none search conds searched conditions =

@@ -1,4 +1,4 @@
-use Rattle.std.proofs.Common.{◌≡◌, List, Option, Some, Vec, sym, ap, subst, ◌∙◌}
+use Rattle.std.proofs.Common.{◌≡◌, ℕ, List, Option, Some, Vec, sym, ap, subst, ◌∙◌}
 use Rattle.std.specs.Option.{option_map}
 use Rattle.std.specs.FinMap.{get}
 use Rattle.std.specs.declared.alloc.Global.{Global}
@@ -6,13 +6,14 @@ use Rattle.ct_keep.specs.laws.Composing.{reads_hold}
 use Rattle.tb_table.specs.declared.columns.Column.{Column}
 use Rattle.tb_table.specs.Tables.{Table}
 use Rattle.db_state.specs.laws.Columns.{some_table}
+use Rattle.db_cond.specs.Faults.{UnknownName, refusal_line}
 use Rattle.st_parse.specs.declared.statements.Cond.{Cond}
 use Rattle.db_find.specs.Searches.{Search, held_search, search_in}
 use Rattle.db_select.specs.Looking.{LooksFew}
 use Rattle.db_select.specs.Predicates.{conds_in}
 use Rattle.db_select.specs.Selecting.{select, select_rows}
 use Rattle.db_select.proofs.SearchLooks.{still_few, table_few}
-use Rattle.db_select.proofs.SelectLaws.{known, table_reply}
+use Rattle.db_select.proofs.SelectLaws.{known, table_reply, unknown}
 use Rattle.db_select.proofs.selecting.select_table.Goals as goal
 
 pub returns-clause-reply : goal.returns-clause-reply
@@ -29,6 +30,16 @@ returns-clause-reply g c = λ m k holds stands.
     c.in_ok-reply.ensures.reply m k table.0 behind stands table.1 (table.2 ∙ lent)
     ∙ table_reply m list t preds table.0 table.1 columns table.2 (sym c.in_default-unknown_name.ensures) (option_map held_search c.search_in-search.result) c.deref-3.result.now c.search_in-search.ensures
     (c.deref-3.ensures.value ∙ c.in_ok-conds.ensures)
+
+pub returns-in-Some-unknown_name-clause-reply : goal.returns-in-Some-unknown_name-clause-reply
+returns-in-Some-unknown_name-clause-reply g c = λ m k holds stands.
+    let t = c.args.table.now in
+    let columns : List Column = c.deref.result.now in
+    let some : Some columns ≡ option_map (λ (x : Table). x.columns) (get m.tables t) =
+    ap Some c.deref.ensures.value ∙ ap (option_map (λ (v : Vec Column Global). v.items)) (sym c.in-Some.is) ∙ c.in_ok-columns.ensures.columns m k holds stands in
+    let table = some_table (get m.tables t) columns some in
+    unknown m c.args.list.now t c.args.preds.now table.0 table.1 columns table.2 c.in-Some-unknown_name.name.now (sym c.in-Some-unknown_name.ensures) c.in_ok-fault_line-2.field-0.items
+    (c.in_ok-fault_line-2.ensures ∙ ap (λ (n : List ℕ). refusal_line (UnknownName n)) c.as_str-in-Some-unknown_name.ensures.text)
 
 -- ---- what was looked up
 
