@@ -1,0 +1,49 @@
+-- The places of a catalogue's entries under a word, in their order.
+use Rattle.std.specs.Prelude.{ℕ, ◌≡◌, Bool, true, false, List, [], ◌∷◌, ◌++◌, Option, Some, None, is_some, Vec, codes, refl}
+use Rattle.std.specs.Bool.{if◌then◌else◌}
+use Rattle.std.specs.Option.{option_map}
+use Rattle.std.specs.FinMap.{get}
+use Rattle.std.specs.declared.alloc.Global.{Global}
+use Rattle.std.specs.Ordering.{nat_cmp, is_lt}
+use Rattle.std.specs.Cmp.Lexicographic.{slice_cmp}
+use Rattle.ct_keep.specs.Content.{Content}
+
+-- All keys of a sub-index begin with its stem. Behind it stands the word, after its length, and then the place: the values by which the sub-index is in
+-- order, and the row. This is whether the word, so spelt, has an entry at a place.
+abbrev pub has_place : Content → List ℕ → List ℕ → List ℕ → Bool
+has_place m stem word place = is_some (get m ((stem ++ word) ++ place))
+
+-- the one place comes before the other, in the order of bytes
+abbrev pub comes_before : List ℕ → List ℕ → Bool
+comes_before a b = is_lt (slice_cmp nat_cmp a b)
+
+-- It is the first place after one at which a test holds.
+pub record IsFirstAfter (holds : List ℕ → Bool) (after place : List ℕ) : Type 0 where
+  pub behind : comes_before after place ≡ true
+  pub at : holds place ≡ true
+  pub first : (p : List ℕ) → comes_before after p ≡ true → comes_before p place ≡ true → holds p ≡ false
+
+-- The same where there may be none.
+abbrev pub IsNext : (List ℕ → Bool) → List ℕ → Option (List ℕ) → Type 0
+IsNext holds after (Some place) = IsFirstAfter holds after place
+IsNext holds after None = (p : List ℕ) → comes_before after p ≡ true → holds p ≡ false
+
+-- a place as code holds it
+abbrev pub next_of : Option (Vec ℕ Global) → Option (List ℕ)
+next_of next = option_map (λ place. place.items) next
+
+-- the one of two places that comes first, where each may be missing
+abbrev pub lesser : Option (List ℕ) → Option (List ℕ) → Option (List ℕ)
+lesser (Some a) (Some b) = if comes_before a b then Some a else Some b
+lesser (Some a) None = Some a
+lesser None b = b
+
+-- computed examples: of two places the one that begins with the lesser byte comes before the other, and one comes before what goes on behind it
+by_their_bytes : comes_before (1 ∷ 9 ∷ []) (2 ∷ []) ≡ true
+by_their_bytes = refl
+
+before_the_longer : comes_before (1 ∷ []) (1 ∷ 0 ∷ []) ≡ true
+before_the_longer = refl
+
+not_before_itself : comes_before (codes "a") (codes "a") ≡ false
+not_before_itself = refl

@@ -1,0 +1,145 @@
+//! The next place at which a walk stops.
+#![tactic(auto, using(ct_keep::specs::laws::Composing::reads_on, ct_keep::specs::laws::Composing::reads_short))]
+
+ghost use Rattle.std.specs.Prelude.{◌≡◌, IfOk};
+ghost use Rattle.ct_keep.specs.KeeperViews.{Finds, OnlyReads};
+ghost use Rattle.cat_walk.specs.Places.{IsNext, has_place, lesser, next_of};
+ghost use Rattle.cat_walk.specs.Walks.{Both, Without, route_of, stops_at};
+
+use crate::probing::{joined, stops_at};
+use crate::walks::Walk;
+use ct_base::Memory;
+use ct_keep::{KeepFault, Keeper, next_under};
+use std::alloc::Global;
+use std::cmp::Ordering;
+
+/// The same bytes once more.
+fn copy(alloc: Global, bytes: &[u8]) -> Result<Vec<u8>, Memory>
+    ensures { IfOk result (λ copy. copy.items ≡ bytes.now) }
+{
+    let copy = Vec::from_slice(alloc, bytes)?;
+    Ok(copy)
+}
+
+/// The next place at which a word has an entry. It takes one look-up.
+fn next_of_word<K: Keeper>(
+    alloc: Global,
+    keeper: &mut K,
+    stem: &[u8],
+    word: &[u8],
+    after: &[u8],
+) -> Result<Option<Vec<u8>>, KeepFault>
+    requires { (K.view keeper.old).ready }
+    ensures next { Finds K.view keeper.old result (λ m next. IsNext (has_place m stem.now word.now) after.now (next_of next)) }
+    ensures reads { OnlyReads K.view keeper.old keeper.new result }
+{
+    let prefix = joined(alloc, stem, word)?;
+    match next_under(alloc, keeper, &prefix, after)? {
+        Some((place, _value)) => Ok(Some(place)),
+        None => Ok(None),
+    }
+}
+
+/// The lesser of two places, where each may be missing.
+fn lesser(a: Option<Vec<u8>>, b: Option<Vec<u8>>) -> Option<Vec<u8>>
+    ensures { next_of result ≡ lesser (next_of a) (next_of b) }
+{
+    match (a, b) {
+        (Some(a), Some(b)) => match a.as_slice().cmp(b.as_slice()) {
+            Ordering::Less => Some(a),
+            Ordering::Equal | Ordering::Greater => Some(b),
+        },
+        (Some(a), None) => Some(a),
+        (None, b) => b,
+    }
+}
+
+/// The next place at which both walks stop: where the one stops, unless the other doesn't stop there too, and else from where the other goes on.
+#[cycle(next)]
+fn next_of_both<K: Keeper>(
+    alloc: Global,
+    keeper: &mut K,
+    stem: &[u8],
+    a: &Walk,
+    b: &Walk,
+    after: &[u8],
+) -> Result<Option<Vec<u8>>, KeepFault>
+    requires { (K.view keeper.old).ready }
+    ensures next { Finds K.view keeper.old result (λ m next. IsNext (stops_at (has_place m stem.now) (Both (route_of a.now) (route_of b.now))) after.now (next_of next)) }
+    ensures reads { OnlyReads K.view keeper.old keeper.new result }
+{
+    let mut last = copy(alloc, after)?;
+    'steps: for _ in 0..u64::MAX {
+        let Some(here) = next_place(alloc, keeper, stem, a, &last)? else {
+            return Ok(None);
+        };
+        if stops_at(alloc, keeper, stem, b, &here)? {
+            return Ok(Some(here));
+        }
+        let Some(there) = next_place(alloc, keeper, stem, b, &here)? else {
+            return Ok(None);
+        };
+        if stops_at(alloc, keeper, stem, a, &there)? {
+            return Ok(Some(there));
+        }
+        last = there;
+    }
+    // no index has so many entries
+    Err(KeepFault::Memory)
+}
+
+/// The next place at which the first walk stops and the second doesn't.
+#[cycle(next)]
+fn next_without<K: Keeper>(
+    alloc: Global,
+    keeper: &mut K,
+    stem: &[u8],
+    a: &Walk,
+    b: &Walk,
+    after: &[u8],
+) -> Result<Option<Vec<u8>>, KeepFault>
+    requires { (K.view keeper.old).ready }
+    ensures next { Finds K.view keeper.old result (λ m next. IsNext (stops_at (has_place m stem.now) (Without (route_of a.now) (route_of b.now))) after.now (next_of next)) }
+    ensures reads { OnlyReads K.view keeper.old keeper.new result }
+{
+    let mut last = copy(alloc, after)?;
+    'steps: for _ in 0..u64::MAX {
+        let Some(here) = next_place(alloc, keeper, stem, a, &last)? else {
+            return Ok(None);
+        };
+        if !stops_at(alloc, keeper, stem, b, &here)? {
+            return Ok(Some(here));
+        }
+        last = here;
+    }
+    // no index has so many entries
+    Err(KeepFault::Memory)
+}
+
+/// The next place, behind one, at which a walk stops; None where there is none. The stem is what the keys of the sub-index begin with.
+///
+/// Each step takes a look-up for each word at most. Of two walks that both have to stop, each goes on behind the place at which the other
+/// stopped, so the number of steps is near twice that of the places at which the rarer one stops. It reads no text, and never answers Full.
+#[cycle(next)]
+pub fn next_place<K: Keeper>(
+    alloc: Global,
+    keeper: &mut K,
+    stem: &[u8],
+    walk: &Walk,
+    after: &[u8],
+) -> Result<Option<Vec<u8>>, KeepFault>
+    requires { (K.view keeper.old).ready }
+    ensures next { Finds K.view keeper.old result (λ m next. IsNext (stops_at (has_place m stem.now) (route_of walk.now)) after.now (next_of next)) }
+    ensures reads { OnlyReads K.view keeper.old keeper.new result }
+{
+    match walk {
+        Walk::Word(word) => next_of_word(alloc, keeper, stem, word.as_slice(), after),
+        Walk::Both(a, b) => next_of_both(alloc, keeper, stem, a, b, after),
+        Walk::Either(a, b) => {
+            let first = next_place(alloc, keeper, stem, a, after)?;
+            let second = next_place(alloc, keeper, stem, b, after)?;
+            Ok(lesser(first, second))
+        }
+        Walk::Without(a, b) => next_without(alloc, keeper, stem, a, b, after),
+    }
+}

@@ -1,0 +1,16 @@
+//! What a walk stops at.
+
+use ct_base::Bytes;
+
+/// The places at which a walk stops, by the words that have an entry there.
+#[derive(Drop)]
+pub enum Walk {
+    /// Where a word has an entry: its length in one byte, and its bytes.
+    Word(Bytes),
+    /// Where both walks stop.
+    Both(Box<Walk>, Box<Walk>),
+    /// Where one of them stops.
+    Either(Box<Walk>, Box<Walk>),
+    /// Where the first stops, and not the second.
+    Without(Box<Walk>, Box<Walk>),
+}
