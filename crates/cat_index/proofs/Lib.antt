@@ -1,0 +1,5 @@
+pub mod RowSteps
+pub mod FilingSteps
+pub mod EntrySteps
+pub mod ReadSteps
+pub mod CreateSteps

@@ -1,0 +1,12 @@
+pub mod Filings
+pub mod Catalogues
+pub mod Spelling
+pub mod Rules
+pub mod Changes
+pub mod Standing
+pub mod Kind
+pub mod KindPromises
+pub mod Sees
+pub mod Shapes
+pub mod Parts
+pub mod laws
