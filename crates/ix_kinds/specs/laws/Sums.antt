@@ -149,11 +149,11 @@ module _ {B C A E D R S : Type 0} (K : Indextype B A D R) (L : Indextype C E D S
       | inl a ↦ k.creates.entry a d t i target prefs old
       | inr e ↦ l.creates.entry e d t i target prefs old
     ];
-    is = λ a d t target prefs is_t texts prefs_are. elim a as (λ a. (either K L).asks t a → (either K L).can_create t a ≡ true → (either K L).is t (new_index_on (either K L) a d t target prefs)) [
+    is = λ a d t target prefs is_t texts prefs_are. elim a as (λ a. (either K L).asks t prefs a → (either K L).can_create t a ≡ true → (either K L).is t (new_index_on (either K L) a d t target prefs)) [
       | inl a ↦ k.creates.is a d t target prefs is_t texts prefs_are
       | inr e ↦ l.creates.is e d t target prefs is_t texts prefs_are
     ];
-    stands = λ f a d t i target prefs is_t texts prefs_are. elim a as (λ a. (either K L).asks t a → (either K L).can_create t a ≡ true → HasNoEntries (either K L) f i
+    stands = λ f a d t i target prefs is_t texts prefs_are. elim a as (λ a. (either K L).asks t prefs a → (either K L).can_create t a ≡ true → HasNoEntries (either K L) f i
         → (either K L).stands (view ((either K L).create_changes a d t i target prefs) f) i (new_index_on (either K L) a d t target prefs) t) [
           | inl a ↦ k.creates.stands f a d t i target prefs is_t texts prefs_are
           | inr e ↦ l.creates.stands f e d t i target prefs is_t texts prefs_are

@@ -20,10 +20,10 @@ use Rattle.tb_table.specs.declared.columns.Column.{Column}
 use Rattle.tb_table.specs.Tables.{Table, Tables, row_in, row_at}
 use Rattle.tb_table.specs.Rules.{AreTables}
 use Rattle.ix_kinds.specs.Rows.{table_at, RowChange, row_change}
-use Rattle.ix_kinds.specs.Indextypes.{IndexOf, Indextype, with_body}
+use Rattle.ix_kinds.specs.Indextypes.{IndexOf, Indextype}
 use Rattle.ix_kinds.specs.Standing.{is_of_indexes, IndexesStand}
 use Rattle.ix_kinds.specs.Statements.{AreIndexesOn, indexes_after_row, indexes_after, index_after_row, row_cost, tables_after, row_changes_in, row_changes_at}
-use Rattle.ix_kinds.specs.IndextypeLaws.{IndextypeLaws}
+use Rattle.ix_kinds.specs.IndextypeLaws.{IndextypeLaws, by_row}
 use Rattle.ix_kinds.specs.RowSteps.{HaveSameColumns, DifferInRow, AreUnseen, IsStep, AreSteps, IndexesHold}
 use Rattle.ix_kinds.specs.laws.Standing.{of_part, indexes_frame, told_own}
 use Rattle.ix_kinds.specs.laws.Tables.{and_false, same_columns}
@@ -70,7 +70,7 @@ module _ {B A D R : Type 0} (K : Indextype B A D R) (laws : IndextypeLaws K) whe
   -- ---- what is read of other rows
 
   -- those of a name are kept by the changes of other kinds of entries
-  module _ (test : IndexOf B → Bool) (stays : (x : IndexOf B) (b : B) → test (with_body x b) ≡ test x) (t : List ℕ) (names : List (List ℕ)) (first_entries : Key → Option (List ℕ)) (first_indexes : Names (IndexOf B)) (first : Tables)
+  module _ (test : IndexOf B → Bool) (stays : (c : RowChange) (n : ℕ) (x : IndexOf B) → test (by_row K c n x) ≡ test x) (t : List ℕ) (names : List (List ℕ)) (first_entries : Key → Option (List ℕ)) (first_indexes : Names (IndexOf B)) (first : Tables)
       (step : Tables → ℤ → Tables) (change : ℤ → RowChange) (row_is : (r : ℤ) → (change r).row ≡ r) (p : Kind → Bool) (rest : ℤ → List (Key × Option (List ℕ))) (all : (r : ℤ) → AllOf p (rest r)) (other : (k : Kind) → is_of_indexes k ≡ true → p k ≡ false) where
     -- the changes of a row in the index of a name, by what was read at first
     abbrev pub as_read : ℤ → List ℕ → List (Key × Option (List ℕ))
