@@ -3,3 +3,5 @@ pub mod Scans
 pub mod Complete
 pub mod Sound
 pub mod Verdicts
+pub mod Limits
+pub mod PlainTrees

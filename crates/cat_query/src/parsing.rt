@@ -1,8 +1,11 @@
 //! Query texts as a whole.
 
-ghost use Rattle.std.specs.Prelude.{◌≡◌, IfSome};
+ghost use Rattle.std.specs.Prelude.{◌≡◌, true, IfOk, IfSome};
 ghost use Rattle.std.specs.Str.{chars};
+ghost use Rattle.q_tree.specs.Limits.{keeps_limits};
+ghost use Rattle.q_tree.specs.Trees.{tree_of};
 ghost use Rattle.cat_query.specs.Machine.{start};
+ghost use Rattle.cat_query.specs.PlainTrees.{is_plain_tree};
 ghost use Rattle.cat_query.specs.Verdicts.{IsVerdict, verdict, verdict_from, verdict_of};
 
 use crate::faults::CatFault;
@@ -33,12 +36,15 @@ fn read_lexemes(alloc: Global, end: u32, lexemes: Vec<Placed>) -> Result<Query, 
     }
 }
 
-/// The query that the text is, or why it is none. Its operators are AND, OR and NOT, and each of its phrases has one word.
+/// The query that the text is, or why it is none. It keeps the limits of queries. Its operators are AND, OR and NOT, and each of its
+/// phrases has one word.
 ///
 /// Faults: `TooLarge` where the text has over 4000 bytes, over 1024 lexemes, or over 32 open parentheses at some place; else
 /// `Syntax` at the first lexeme, or at the end, such that the text up to and with it begins no query; and `Memory`. The cost is
 /// linear in the bytes of the text. The tree is less than 1024 deep.
 pub fn read(alloc: Global, text: &str) -> Result<Query, CatFault>
+    ensures limits { IfOk result (λ q. keeps_limits (tree_of q) ≡ true) }
+    ensures plain { IfOk result (λ q. is_plain_tree (tree_of q) ≡ true) }
     ensures verdict { IfSome (verdict_of result) (λ v. v ≡ verdict (chars text.now)) }
     ensures grammar { IfSome (verdict_of result) (λ v. IsVerdict (chars text.now) v) }
 {

@@ -1,6 +1,6 @@
 -- CREATE TABLE and CREATE INDEX are read as they are spelt.
-use Rattle.std.proofs.Common.{◌≡◌, ℕ, Bool, true, false, List, [], ◌∷◌, ◌++◌, refl, sym, ap, ◌∙◌, append_assoc, ⊎_elim, inl, inr, Option, Some, None}
-use Rattle.st_parse.specs.declared.lexemes.Keyword.TheVariants.{Create as CREATE, Table as TABLE, Index as INDEX, On as ON, Indextype as INDEXTYPE, Is as IS, Ctxsys as CTXSYS, Parameters as PARAMETERS, Context as CONTEXT, Number as NUMBER, Varchar2 as VARCHAR2, Clob as CLOB, Primary as PRIMARY, Key as KEY, From as FROM, Where as WHERE, And as AND}
+use Rattle.std.proofs.Common.{◌≡◌, ℕ, Bool, true, false, List, [], ◌∷◌, ◌++◌, refl, sym, ap, ◌∙◌, append_assoc, inl, inr, Option, Some, None}
+use Rattle.st_parse.specs.declared.lexemes.Keyword.TheVariants.{Create as CREATE, Table as TABLE, Index as INDEX, On as ON, Indextype as INDEXTYPE, Is as IS, Ctxsys as CTXSYS, Parameters as PARAMETERS, Context as CONTEXT, Ctxcat as CTXCAT, Number as NUMBER, Varchar2 as VARCHAR2, Clob as CLOB, Primary as PRIMARY, Key as KEY, From as FROM, Where as WHERE, And as AND}
 use Rattle.st_parse.specs.declared.lexemes.Symbol.TheVariants.{Open, Close, Comma, Dot}
 use Rattle.st_parse.specs.declared.lexemes.Lexeme.{Lexeme}
 use Rattle.st_parse.specs.declared.lexemes.Lexeme.TheVariants.{Word, Name, Number, Text, Sign}
@@ -8,12 +8,12 @@ use Rattle.st_parse.specs.declared.statements.SortText.{SortText}
 use Rattle.st_parse.specs.declared.statements.SortText.TheVariants.{Number as NumberSort, Varchar2, Clob}
 use Rattle.st_parse.specs.declared.statements.ColumnText.{ColumnText}
 use Rattle.st_parse.specs.declared.statements.IndexKind.{IndexKind}
-use Rattle.st_parse.specs.declared.statements.IndexKind.TheVariants.{Context}
+use Rattle.st_parse.specs.declared.statements.IndexKind.TheVariants.{Context, Ctxcat}
 use Rattle.st_parse.specs.declared.statements.Statement.{Statement}
 use Rattle.st_parse.specs.declared.statements.Statement.TheVariants.{CreateTable, CreateIndex}
 use Rattle.st_parse.specs.Lexemes.{◌>>=◌}
 use Rattle.st_parse.specs.Lists.{AreEnclosed, enclosed_last}
-use Rattle.st_parse.specs.Creating.{IsSortText, primary_key, IsColumn, IsIndexKind, sort_text_at, primary_key_at, column_text, column_at, IsParameters, kind_at, index_kind_at, enclosed_text_of, parameters_of, create_table_of, create_index_of, index_on_of, create_of}
+use Rattle.st_parse.specs.Creating.{IsSortText, primary_key, IsColumn, IsPlainKind, IsIndexKind, sort_text_at, primary_key_at, column_text, column_at, IsParameters, plain_kind_at, kind_at, index_kind_at, enclosed_text_of, parameters_of, create_table_of, create_index_of, index_on_of, create_of}
 use Rattle.st_parse.specs.Grammar.{IsStatement}
 use Rattle.st_parse.proofs.Spelt.{Spelt, Follows, Wholly, enclosed_last-spelt, enclosed_last-again}
 
@@ -65,20 +65,42 @@ column-again prefix rest column (sort, is, e) follows =
 abbrev IsTyped : List Lexeme → IndexKind → Type 0
 IsTyped ls kind = (kinds : List Lexeme) × IsIndexKind kinds kind × (ls ≡ Word INDEXTYPE ∷ Word IS ∷ kinds)
 
+plain-spelt : (ls : List Lexeme) → Spelt IsPlainKind (plain_kind_at ls) ls
+plain-spelt (Word CONTEXT ∷ ls) = (Word CONTEXT ∷ [], refl, refl)
+plain-spelt (Word CTXCAT ∷ ls) = (Word CTXCAT ∷ [], refl, refl)
+plain-spelt ls = tt
+
+bare-spelt : (o : Option (IndexKind × List Lexeme)) (ls : List Lexeme) → Spelt IsPlainKind o ls → Spelt IsTyped o (Word INDEXTYPE ∷ Word IS ∷ ls)
+bare-spelt None ls is = tt
+bare-spelt (Some (kind, rest)) ls (plain, is, e) = (Word INDEXTYPE ∷ Word IS ∷ plain, (plain, inl is, refl), ap (λ x. Word INDEXTYPE ∷ Word IS ∷ x) e)
+
+owned-spelt : (o : Option (IndexKind × List Lexeme)) (ls : List Lexeme) → Spelt IsPlainKind o ls → Spelt IsTyped o (Word INDEXTYPE ∷ Word IS ∷ Word CTXSYS ∷ Sign Dot ∷ ls)
+owned-spelt None ls is = tt
+owned-spelt (Some (kind, rest)) ls (plain, is, e) =
+    (Word INDEXTYPE ∷ Word IS ∷ Word CTXSYS ∷ Sign Dot ∷ plain, (Word CTXSYS ∷ Sign Dot ∷ plain, inr (plain, is, refl), refl), ap (λ x. Word INDEXTYPE ∷ Word IS ∷ Word CTXSYS ∷ Sign Dot ∷ x) e)
+
 typed-spelt : (ls : List Lexeme) → Spelt IsTyped (kind_at ls) (Word INDEXTYPE ∷ Word IS ∷ ls)
-typed-spelt (Word CONTEXT ∷ ls) = (Word INDEXTYPE ∷ Word IS ∷ Word CONTEXT ∷ [], (Word CONTEXT ∷ [], inl refl, refl), refl)
-typed-spelt (Word CTXSYS ∷ Sign Dot ∷ Word CONTEXT ∷ ls) =
-    (Word INDEXTYPE ∷ Word IS ∷ Word CTXSYS ∷ Sign Dot ∷ Word CONTEXT ∷ [], (Word CTXSYS ∷ Sign Dot ∷ Word CONTEXT ∷ [], inr refl, refl), refl)
-typed-spelt ls = tt
+typed-spelt (Word CTXSYS ∷ Sign Dot ∷ ls) = owned-spelt (plain_kind_at ls) ls (plain-spelt ls)
+typed-spelt ls = bare-spelt (plain_kind_at ls) ls (plain-spelt ls)
 
 kind-spelt : (ls : List Lexeme) → Spelt IsTyped (index_kind_at ls) ls
 kind-spelt (Word INDEXTYPE ∷ Word IS ∷ ls) = typed-spelt ls
 kind-spelt ls = tt
 
+plain-again : (kinds rest : List Lexeme) (kind : IndexKind) → IsPlainKind kinds kind → plain_kind_at (kinds ++ rest) ≡ Some (kind, rest)
+plain-again kinds rest Context e = ap (λ x. plain_kind_at (x ++ rest)) e
+plain-again kinds rest Ctxcat e = ap (λ x. plain_kind_at (x ++ rest)) e
+plain-again kinds rest kind is = absurd is
+
+-- a type of index begins with no owner
+bare-again : (kinds rest : List Lexeme) (kind : IndexKind) → IsPlainKind kinds kind → kind_at (kinds ++ rest) ≡ Some (kind, rest)
+bare-again kinds rest Context e = ap (λ x. kind_at (x ++ rest)) e
+bare-again kinds rest Ctxcat e = ap (λ x. kind_at (x ++ rest)) e
+bare-again kinds rest kind is = absurd is
+
 kind-again : (kinds rest : List Lexeme) (kind : IndexKind) → IsIndexKind kinds kind → index_kind_at (Word INDEXTYPE ∷ Word IS ∷ (kinds ++ rest)) ≡ Some (kind, rest)
-kind-again kinds rest Context is =
-    ⊎_elim {C = index_kind_at (Word INDEXTYPE ∷ Word IS ∷ (kinds ++ rest)) ≡ Some (Context, rest)} (λ e. ap (λ x. index_kind_at (Word INDEXTYPE ∷ Word IS ∷ (x ++ rest))) e) (λ e. ap (λ x. index_kind_at (Word INDEXTYPE ∷ Word IS ∷ (x ++ rest))) e) is
-kind-again kinds rest kind is = absurd is
+kind-again kinds rest kind (inl is) = bare-again kinds rest kind is
+kind-again kinds rest kind (inr (plain, is, e)) = ap (λ x. kind_at (x ++ rest)) e ∙ plain-again plain rest kind is
 
 enclosed-spelt : (ls : List Lexeme) → Wholly IsParameters (enclosed_text_of ls) (Word PARAMETERS ∷ ls)
 enclosed-spelt (Sign Open ∷ Text text ∷ Sign Close ∷ []) = refl

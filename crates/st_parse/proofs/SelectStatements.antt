@@ -1,25 +1,28 @@
 -- SELECT is read as it is spelt.
 use Rattle.std.proofs.Common.{◌≡◌, ℕ, ◌≤◌, Bool, true, false, cond, append_assoc, List, [], ◌∷◌, ◌++◌, refl, sym, ap, ◌∙◌, subst, Option, Some, None}
-use Rattle.std.specs.Prelude.{nat_le, count_by}
+use Rattle.std.specs.Prelude.{nat_le, count_by, pos}
 use Rattle.std.proofs.lemmas.Bool.{leb-true, le-leb}
-use Rattle.st_parse.specs.declared.lexemes.Keyword.TheVariants.{Select as SELECT, Score as SCORE, Count as COUNT, From as FROM, Contains as CONTAINS}
+use Rattle.std.proofs.lemmas.Bool.Decides.{Decides-int_eq}
+use Rattle.st_parse.specs.declared.lexemes.Keyword.TheVariants.{Select as SELECT, Score as SCORE, Count as COUNT, From as FROM, Contains as CONTAINS, Catsearch as CATSEARCH, Null as NULL}
 use Rattle.st_parse.specs.declared.lexemes.Symbol.TheVariants.{Open, Close, Comma, Star, Greater}
 use Rattle.st_parse.specs.declared.lexemes.Lexeme.{Lexeme}
 use Rattle.st_parse.specs.declared.lexemes.Lexeme.TheVariants.{Word, Name, Text, Number, Sign}
 use Rattle.st_parse.specs.declared.listing.Separator.TheVariants.{Comma as ByComma}
 use Rattle.st_parse.specs.declared.statements.Whole.{Whole}
+use Rattle.st_parse.specs.declared.statements.Whole.TheVariants.{Fits, Beyond}
 use Rattle.st_parse.specs.declared.statements.Item.{Item}
 use Rattle.st_parse.specs.declared.statements.Item.TheVariants.{Column, Score}
 use Rattle.st_parse.specs.declared.statements.Cond.{Cond as Condition}
 use Rattle.st_parse.specs.declared.statements.Pred.{Pred}
-use Rattle.st_parse.specs.declared.statements.Pred.TheVariants.{Cond, Contains}
+use Rattle.st_parse.specs.declared.statements.Pred.TheVariants.{Cond, Contains, Catsearch}
 use Rattle.st_parse.specs.declared.statements.SelectList.{SelectList}
 use Rattle.st_parse.specs.declared.statements.SelectList.TheVariants.{Star as AllColumns, CountAll, Items}
 use Rattle.st_parse.specs.declared.statements.Statement.TheVariants.{Select}
 use Rattle.st_parse.specs.Lexemes.{◌>>=◌}
+use Rattle.st_parse.specs.Numbers.{number}
 use Rattle.st_parse.specs.Lists.{AreListed, IsWhere, list_at, where_of}
 use Rattle.st_parse.specs.Conditions.{IsCond, cond_at}
-use Rattle.st_parse.specs.Selecting.{IsSelectItem, IsSelectList, IsLabel, IsPred, is_search, score_at, item_at, items_at, count_at, select_list_at, label_at, above_at, contains_at, pred_at, select_by, from_of, select_of}
+use Rattle.st_parse.specs.Selecting.{IsSelectItem, IsSelectList, IsLabel, structured_lexeme, IsPred, is_search, score_at, item_at, count_at, select_list_at, label_at, above_at, contains_at, structured_at, is_zero, above_zero_at, catsearch_at, pred_at, select_by, from_of, select_of}
 use Rattle.st_parse.specs.Grammar.{IsStatement}
 use Rattle.st_parse.proofs.Spelt.{Spelt, Wholly, Follows, list_at-spelt, list_at-again, where-spelt, where-again}
 use Rattle.st_parse.proofs.SpeltConditions.{cond-spelt, cond-again}
@@ -94,14 +97,52 @@ contains-spelt : (ls : List Lexeme) → Spelt IsPred (contains_at ls) (Word CONT
 contains-spelt (Sign Open ∷ Name column ∷ Sign Comma ∷ Text query ∷ ls) = above-spelt column query (label_at ls) ls (label-spelt ls)
 contains-spelt ls = tt
 
+-- CATSEARCH up to its text
+abbrev catsearch : List ℕ → List ℕ → List Lexeme → List Lexeme
+catsearch column query ls = Word CATSEARCH ∷ Sign Open ∷ Name column ∷ Sign Comma ∷ Text query ∷ ls
+
+-- what stands behind the structured query
+abbrev above_zero : List ℕ → List Lexeme → List Lexeme
+above_zero digits ls = Sign Close ∷ Sign Greater ∷ Number digits ∷ ls
+
+zero-is : (n : Whole) → is_zero n ≡ true → n ≡ Fits (pos 0)
+zero-is (Fits n) zero = ap Fits ((Decides-int_eq n (pos 0)).0 zero)
+zero-is Beyond zero = cc
+
+zero-spelt : (b : Bool) (column query : List ℕ) (structured : Option (List ℕ)) (digits : List ℕ) (rest : List Lexeme) → is_zero (number digits) ≡ b
+    → Spelt IsPred (cond b (Some (Catsearch column query structured, rest)) None) (catsearch column query (Sign Comma ∷ structured_lexeme structured ∷ above_zero digits rest))
+zero-spelt true column query structured digits rest zero =
+    (catsearch column query (Sign Comma ∷ structured_lexeme structured ∷ above_zero digits []), (digits, zero-is (number digits) zero, refl), refl)
+zero-spelt false column query structured digits rest zero = tt
+
+above_zero-spelt : (column query : List ℕ) (structured : Option (List ℕ)) (ls : List Lexeme)
+    → Spelt IsPred (above_zero_at column query (structured, ls)) (catsearch column query (Sign Comma ∷ structured_lexeme structured ∷ ls))
+above_zero-spelt column query structured (Sign Close ∷ Sign Greater ∷ Number digits ∷ rest) = zero-spelt (is_zero (number digits)) column query structured digits rest refl
+above_zero-spelt column query structured ls = tt
+
+structured-spelt : (column query : List ℕ) (ls : List Lexeme) → Spelt IsPred (structured_at ls >>= above_zero_at column query) (catsearch column query ls)
+structured-spelt column query (Sign Comma ∷ Word NULL ∷ ls) = above_zero-spelt column query None ls
+structured-spelt column query (Sign Comma ∷ Text text ∷ ls) = above_zero-spelt column query (Some text) ls
+structured-spelt column query ls = tt
+
+catsearch-spelt : (ls : List Lexeme) → Spelt IsPred (catsearch_at ls) (Word CATSEARCH ∷ ls)
+catsearch-spelt (Sign Open ∷ Name column ∷ Sign Comma ∷ Text query ∷ ls) = structured-spelt column query ls
+catsearch-spelt ls = tt
+
 pred-spelt : (ls : List Lexeme) → Spelt IsPred (pred_at ls) ls
 pred-spelt (Word CONTAINS ∷ ls) = contains-spelt ls
+pred-spelt (Word CATSEARCH ∷ ls) = catsearch-spelt ls
 pred-spelt ls = condition-spelt (cond_at ls) ls (cond-spelt ls)
 
--- a condition doesn't begin with CONTAINS
+-- a condition begins with neither CONTAINS nor CATSEARCH
 condition-first : (ls rest : List Lexeme) (condition : Condition) → cond_at ls ≡ Some (condition, rest) → pred_at ls ≡ Some (Cond condition, rest)
 condition-first (Word CONTAINS ∷ ls) rest condition read = cc
+condition-first (Word CATSEARCH ∷ ls) rest condition read = cc
 condition-first ls rest condition read = ap (λ o. o >>= λ found. Some (Cond found.0, found.1)) read
+
+structured-again : (structured : Option (List ℕ)) (rest : List Lexeme) → structured_at (Sign Comma ∷ structured_lexeme structured ∷ rest) ≡ Some (structured, rest)
+structured-again None rest = refl
+structured-again (Some text) rest = refl
 
 pred-again : (prefix rest : List Lexeme) (pred : Pred) → IsPred prefix pred → Follows rest → pred_at (prefix ++ rest) ≡ Some (pred, rest)
 pred-again prefix rest (Cond condition) is follows = condition-first (prefix ++ rest) rest condition (cond-again prefix rest condition is follows)
@@ -110,6 +151,10 @@ pred-again prefix rest (Contains column query label above) (labels, (digits, is,
     ∙ ap (λ x. pred_at (contains column query x)) (append_assoc labels (Sign Close ∷ Sign Greater ∷ Number digits ∷ []) rest)
     ∙ ap (above_at column query) (label-again labels (Sign Greater ∷ Number digits ∷ rest) label is)
     ∙ ap (λ x. Some (Contains column query label x, rest)) (sym value)
+pred-again prefix rest (Catsearch column query structured) (digits, zero, e) follows =
+    ap (λ x. pred_at (x ++ rest)) e
+    ∙ ap (λ o. o >>= above_zero_at column query) (structured-again structured (above_zero digits rest))
+    ∙ ap (λ n. cond (is_zero n) (Some (Catsearch column query structured, rest)) None) zero
 pred-again prefix rest pred is follows = absurd is
 
 -- the statement, with `b` for whether it has one search at most

@@ -1,6 +1,6 @@
 -- CREATE TABLE and CREATE INDEX, as they are spelt and as they are read.
 use Rattle.std.specs.Prelude.{ℕ, ◌≡◌, ◌⊎◌, Bool, true, false, pos, List, [], ◌∷◌, ◌++◌, codes, Option, Some, None, refl}
-use Rattle.st_parse.specs.declared.lexemes.Keyword.TheVariants.{Table as TABLE, Index as INDEX, On as ON, Indextype as INDEXTYPE, Is as IS, Ctxsys as CTXSYS, Parameters as PARAMETERS, Context as CONTEXT, Number as NUMBER, Varchar2 as VARCHAR2, Clob as CLOB, Primary as PRIMARY, Key as KEY}
+use Rattle.st_parse.specs.declared.lexemes.Keyword.TheVariants.{Table as TABLE, Index as INDEX, On as ON, Indextype as INDEXTYPE, Is as IS, Ctxsys as CTXSYS, Parameters as PARAMETERS, Context as CONTEXT, Ctxcat as CTXCAT, Number as NUMBER, Varchar2 as VARCHAR2, Clob as CLOB, Primary as PRIMARY, Key as KEY}
 use Rattle.st_parse.specs.declared.lexemes.Symbol.TheVariants.{Open, Close, Comma, Dot}
 use Rattle.st_parse.specs.declared.lexemes.Lexeme.{Lexeme}
 use Rattle.st_parse.specs.declared.lexemes.Lexeme.TheVariants.{Word, Name, Number, Text, Sign}
@@ -9,7 +9,7 @@ use Rattle.st_parse.specs.declared.statements.SortText.{SortText}
 use Rattle.st_parse.specs.declared.statements.SortText.TheVariants.{Number as NumberSort, Varchar2, Clob}
 use Rattle.st_parse.specs.declared.statements.ColumnText.{ColumnText}
 use Rattle.st_parse.specs.declared.statements.IndexKind.{IndexKind}
-use Rattle.st_parse.specs.declared.statements.IndexKind.TheVariants.{Context}
+use Rattle.st_parse.specs.declared.statements.IndexKind.TheVariants.{Context, Ctxcat}
 use Rattle.st_parse.specs.declared.statements.Statement.{Statement}
 use Rattle.st_parse.specs.declared.statements.Statement.TheVariants.{CreateTable, CreateIndex}
 use Rattle.st_parse.specs.Lexemes.{◌>>=◌}
@@ -30,10 +30,14 @@ primary_key false = []
 abbrev pub IsColumn : List Lexeme → ColumnText → Type 0
 IsColumn ls column = (sort : List Lexeme) × IsSortText sort column.sort × (ls ≡ Name column.name ∷ (sort ++ primary_key column.primary))
 
--- the type of an index, with its owner or without
+-- the type of an index without its owner, and the same with its owner or without
+abbrev pub IsPlainKind : List Lexeme → IndexKind → Type 0
+IsPlainKind ls Context = ls ≡ Word CONTEXT ∷ []
+IsPlainKind ls Ctxcat = ls ≡ Word CTXCAT ∷ []
+IsPlainKind ls kind = ⊥
+
 abbrev pub IsIndexKind : List Lexeme → IndexKind → Type 0
-IsIndexKind ls Context = (ls ≡ Word CONTEXT ∷ []) ⊎ (ls ≡ Word CTXSYS ∷ Sign Dot ∷ Word CONTEXT ∷ [])
-IsIndexKind ls kind = ⊥
+IsIndexKind ls kind = IsPlainKind ls kind ⊎ ((plain : List Lexeme) × IsPlainKind plain kind × (ls ≡ Word CTXSYS ∷ Sign Dot ∷ plain))
 
 -- the text of PARAMETERS, where the statement has one
 abbrev pub IsParameters : List Lexeme → Option (List ℕ) → Type 0
@@ -58,10 +62,14 @@ abbrev pub column_at : Reader ColumnText
 column_at (Name name ∷ ls) = sort_text_at ls >>= λ sort. Some (column_text name sort.0 (primary_key_at sort.1))
 column_at ls = None
 
+abbrev pub plain_kind_at : Reader IndexKind
+plain_kind_at (Word CONTEXT ∷ ls) = Some (Context, ls)
+plain_kind_at (Word CTXCAT ∷ ls) = Some (Ctxcat, ls)
+plain_kind_at ls = None
+
 abbrev pub kind_at : Reader IndexKind
-kind_at (Word CONTEXT ∷ ls) = Some (Context, ls)
-kind_at (Word CTXSYS ∷ Sign Dot ∷ Word CONTEXT ∷ ls) = Some (Context, ls)
-kind_at ls = None
+kind_at (Word CTXSYS ∷ Sign Dot ∷ ls) = plain_kind_at ls
+kind_at ls = plain_kind_at ls
 
 abbrev pub index_kind_at : Reader IndexKind
 index_kind_at (Word INDEXTYPE ∷ Word IS ∷ ls) = kind_at ls
@@ -110,6 +118,12 @@ a_short_text = refl
 
 of_its_owner : index_kind_at (Word INDEXTYPE ∷ Word IS ∷ Word CTXSYS ∷ Sign Dot ∷ Word CONTEXT ∷ Word PARAMETERS ∷ []) ≡ Some (Context, Word PARAMETERS ∷ [])
 of_its_owner = refl
+
+a_catalogue : index_kind_at (Word INDEXTYPE ∷ Word IS ∷ Word CTXCAT ∷ []) ≡ Some (Ctxcat, [])
+a_catalogue = refl
+
+owned_twice : kind_at (Word CTXSYS ∷ Sign Dot ∷ Word CTXSYS ∷ Sign Dot ∷ Word CTXCAT ∷ []) ≡ None
+owned_twice = refl
 
 a_stoplist : index_of (codes "i") (codes "t") (codes "a") (Word INDEXTYPE ∷ Word IS ∷ Word CONTEXT ∷ Word PARAMETERS ∷ Sign Open ∷ Text (codes "stoplist sl") ∷ Sign Close ∷ [])
     ≡ Some (CreateIndex (codes "i") (codes "t") (codes "a") Context (Some (codes "stoplist sl")) None)

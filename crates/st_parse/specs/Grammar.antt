@@ -9,12 +9,12 @@ use Rattle.st_parse.specs.declared.lexemes.Lexeme.TheVariants.{Word, Name, Sign}
 use Rattle.st_parse.specs.declared.statements.Whole.TheVariants.{Fits, Beyond}
 use Rattle.st_parse.specs.declared.statements.Operand.TheVariants.{Text as TextValue, Number as NumberValue}
 use Rattle.st_parse.specs.declared.statements.SortText.TheVariants.{Number as NumberSort, Varchar2, Clob}
-use Rattle.st_parse.specs.declared.statements.IndexKind.TheVariants.{Context}
+use Rattle.st_parse.specs.declared.statements.IndexKind.TheVariants.{Context, Ctxcat}
 use Rattle.st_parse.specs.declared.statements.Item.TheVariants.{Column, Score}
 use Rattle.st_parse.specs.declared.statements.SelectList.TheVariants.{Star as AllColumns, CountAll, Items}
 use Rattle.st_parse.specs.declared.statements.Compare.TheVariants.{Equal, Less, AtMost, Greater, AtLeast}
 use Rattle.st_parse.specs.declared.statements.Cond.TheVariants.{Compare, Between, OneOf}
-use Rattle.st_parse.specs.declared.statements.Pred.TheVariants.{Cond, Contains}
+use Rattle.st_parse.specs.declared.statements.Pred.TheVariants.{Cond, Contains, Catsearch}
 use Rattle.st_parse.specs.declared.statements.Arg.TheVariants.{Text as TextArg, Number as NumberArg, Flag}
 use Rattle.st_parse.specs.declared.statements.Statement.{Statement}
 use Rattle.st_parse.specs.declared.statements.Statement.TheVariants.{CreateTable, DropTable, DropIndex, CreateIndex, Insert, Update, Delete, Select, Exec, Commit}
@@ -113,7 +113,12 @@ table = refl
 index : read (codes "CREATE INDEX di ON docs(body) INDEXTYPE IS CTXSYS.CONTEXT") ≡ Found (CreateIndex (codes "di") (codes "docs") (codes "body") Context None None)
 index = refl
 
-index_of_later : read (codes "CREATE INDEX di ON docs(body) INDEXTYPE IS CTXCAT") ≡ NoStatement
+catalogue : read (codes "CREATE INDEX ci ON items(title) INDEXTYPE IS CTXSYS.CTXCAT PARAMETERS ('INDEX SET iset')")
+    ≡ Found (CreateIndex (codes "ci") (codes "items") (codes "title") Ctxcat (Some (codes "INDEX SET iset")) None)
+unfolding encode
+catalogue = refl
+
+index_of_later : read (codes "CREATE INDEX di ON docs(body) INDEXTYPE IS CTXRULE") ≡ NoStatement
 index_of_later = refl
 
 table_dropped : read (codes "DROP TABLE docs") ≡ Found (DropTable (codes "docs"))
@@ -182,9 +187,15 @@ matches_later : read (codes "SELECT id FROM docs WHERE MATCHES(body,'quick') > 0
 unfolding encode
 matches_later = refl
 
-catsearch_later : read (codes "SELECT id FROM docs WHERE CATSEARCH(body,'quick',NULL) > 0") ≡ NoStatement
+in_a_catalogue : read (codes "SELECT id FROM docs WHERE CATSEARCH(body,'quick',NULL) > 0 AND id < 5")
+    ≡ Found (Select (Items (Column (codes "id") ∷ [])) (codes "docs")
+    (Catsearch (codes "body") (codes "quick") None ∷ Cond (Compare (codes "id") Less (NumberValue (Fits (pos 5)))) ∷ []) [])
 unfolding encode
-catsearch_later = refl
+in_a_catalogue = refl
+
+two_kinds_of_searches : read (codes "SELECT id FROM docs WHERE CATSEARCH(body,'quick',NULL) > 0 AND CONTAINS(body,'fox') > 0") ≡ NoStatement
+unfolding encode
+two_kinds_of_searches = refl
 
 plainly_ordered_later : read (codes "SELECT id FROM docs ORDER BY id") ≡ NoStatement
 plainly_ordered_later = refl

@@ -1,7 +1,7 @@
 //! CREATE TABLE and CREATE INDEX.
 
 ghost use Rattle.std.specs.Prelude.{◌≡◌, ◌≤◌, length, IfOk};
-ghost use Rattle.st_parse.specs.Creating.{sort_text_at, primary_key_at, column_at, kind_at, index_kind_at, enclosed_text_of, parameters_of, index_of, index_on_of, create_table_of, create_index_of, create_of};
+ghost use Rattle.st_parse.specs.Creating.{sort_text_at, primary_key_at, column_at, plain_kind_at, kind_at, index_kind_at, enclosed_text_of, parameters_of, index_of, index_on_of, create_table_of, create_index_of, create_of};
 ghost use Rattle.st_parse.specs.Reading.{ReadGives, StatementGives};
 
 use crate::lexemes::{Keyword, Lexeme, Symbol};
@@ -85,19 +85,28 @@ fn create_table(alloc: Global, lexemes: &[Lexeme]) -> Result<Statement, Statemen
     }
 }
 
+/// The type of an index without its owner, and what follows.
+fn plain_kind(lexemes: &[Lexeme]) -> Result<(IndexKind, &[Lexeme]), StatementFault>
+    ensures { ReadGives (λ found. (found.0, found.1.now)) result (plain_kind_at lexemes.now) }
+{
+    match lexemes {
+        [Lexeme::Word(Keyword::Context), rest @ ..] => Ok((IndexKind::Context, rest)),
+        [Lexeme::Word(Keyword::Ctxcat), rest @ ..] => Ok((IndexKind::Ctxcat, rest)),
+        _ => Err(StatementFault::Syntax),
+    }
+}
+
 /// The type of an index, with its owner or without, and what follows.
 fn named_kind(lexemes: &[Lexeme]) -> Result<(IndexKind, &[Lexeme]), StatementFault>
     ensures { ReadGives (λ found. (found.0, found.1.now)) result (kind_at lexemes.now) }
 {
     match lexemes {
-        [Lexeme::Word(Keyword::Context), rest @ ..] => Ok((IndexKind::Context, rest)),
         [
             Lexeme::Word(Keyword::Ctxsys),
             Lexeme::Sign(Symbol::Dot),
-            Lexeme::Word(Keyword::Context),
             rest @ ..,
-        ] => Ok((IndexKind::Context, rest)),
-        _ => Err(StatementFault::Syntax),
+        ] => plain_kind(rest),
+        _ => plain_kind(lexemes),
     }
 }
 

@@ -1,7 +1,7 @@
 //! SELECT.
 
 ghost use Rattle.std.specs.Prelude.{◌≡◌, ◌≤◌, nat_le, count_by, length, IfOk};
-ghost use Rattle.st_parse.specs.Selecting.{score_at, item_at, label_at, above_at, contains_at, pred_at, is_search, from_of, count_at, items_at, select_list_at, select_of};
+ghost use Rattle.st_parse.specs.Selecting.{score_at, item_at, label_at, searched_at, threshold_at, contains_at, structured_at, is_zero, catsearch_at, pred_at, is_search, from_of, count_at, items_at, select_list_at, select_of};
 ghost use Rattle.st_parse.specs.Reading.{ReadGives, StatementGives};
 
 use crate::lexemes::{Keyword, Lexeme, Symbol};
@@ -55,14 +55,26 @@ fn read_label(lexemes: &[Lexeme]) -> (Option<Whole>, &[Lexeme])
     }
 }
 
-/// CONTAINS, by what follows its label.
-fn read_above<'a>(
-    column: &Name,
-    query: &Text,
-    label: Option<Whole>,
-    lexemes: &'a [Lexeme],
-) -> Result<(Pred, &'a [Lexeme]), StatementFault>
-    ensures gives { ReadGives (λ x. (x.0, x.1.now)) result (above_at column.now query.now (label, lexemes.now)) }
+/// The column and the text of a search, at the beginning of what stands behind its name, and what follows them.
+fn read_searched(lexemes: &[Lexeme]) -> Result<(Name, Text, &[Lexeme]), StatementFault>
+    ensures gives { ReadGives (λ x. ((x.0, x.1), x.2.now)) result (searched_at lexemes.now) }
+    ensures rest { IfOk result (λ x. length x.2.now ≤ length lexemes.now) }
+{
+    match lexemes {
+        [
+            Lexeme::Sign(Symbol::Open),
+            Lexeme::Name(column),
+            Lexeme::Sign(Symbol::Comma),
+            Lexeme::Text(text),
+            rest @ ..,
+        ] => Ok((column.clone()?, text.clone()?, rest)),
+        _ => Err(StatementFault::Syntax),
+    }
+}
+
+/// The end of a search, with the number that its score has to be above, and what follows it.
+fn read_threshold(lexemes: &[Lexeme]) -> Result<(Whole, &[Lexeme]), StatementFault>
+    ensures gives { ReadGives (λ x. (x.0, x.1.now)) result (threshold_at lexemes.now) }
     ensures rest { IfOk result (λ x. length x.1.now ≤ length lexemes.now) }
 {
     match lexemes {
@@ -71,15 +83,7 @@ fn read_above<'a>(
             Lexeme::Sign(Symbol::Greater),
             Lexeme::Number(digits),
             rest @ ..,
-        ] => Ok((
-            Pred::Contains {
-                column: column.clone()?,
-                query: query.clone()?,
-                label,
-                above: number(digits),
-            },
-            rest,
-        )),
+        ] => Ok((number(digits), rest)),
         _ => Err(StatementFault::Syntax),
     }
 }
@@ -89,19 +93,68 @@ fn read_contains(lexemes: &[Lexeme]) -> Result<(Pred, &[Lexeme]), StatementFault
     ensures gives { ReadGives (λ x. (x.0, x.1.now)) result (contains_at lexemes.now) }
     ensures rest { IfOk result (λ x. length x.1.now ≤ length lexemes.now) }
 {
+    let (column, query, rest) = read_searched(lexemes)?;
+    let (label, rest) = read_label(rest);
+    let (above, rest) = read_threshold(rest)?;
+    Ok((
+        Pred::Contains {
+            column,
+            query,
+            label,
+            above,
+        },
+        rest,
+    ))
+}
+
+/// A comma, and what stands in the place of a structured query: a text, or NULL, which is none. And what follows them.
+fn read_structured(lexemes: &[Lexeme]) -> Result<(Option<Text>, &[Lexeme]), StatementFault>
+    ensures gives { ReadGives (λ x. (x.0, x.1.now)) result (structured_at lexemes.now) }
+    ensures rest { IfOk result (λ x. length x.1.now ≤ length lexemes.now) }
+{
     match lexemes {
         [
-            Lexeme::Sign(Symbol::Open),
-            Lexeme::Name(column),
             Lexeme::Sign(Symbol::Comma),
-            Lexeme::Text(query),
+            Lexeme::Word(Keyword::Null),
             rest @ ..,
-        ] => {
-            let (label, rest) = read_label(rest);
-            read_above(column, query, label, rest)
-        }
+        ] => Ok((None, rest)),
+        [Lexeme::Sign(Symbol::Comma), Lexeme::Text(text), rest @ ..] => Ok((
+            Some(text.clone()?),
+            rest,
+        )),
         _ => Err(StatementFault::Syntax),
     }
+}
+
+/// Whether a number is 0.
+fn is_zero(number: Whole) -> bool
+    ensures { result ≡ is_zero number }
+{
+    match number {
+        Whole::Fits(n) => n == 0,
+        Whole::Beyond => false,
+    }
+}
+
+/// CATSEARCH, by what follows it.
+fn read_catsearch(lexemes: &[Lexeme]) -> Result<(Pred, &[Lexeme]), StatementFault>
+    ensures gives { ReadGives (λ x. (x.0, x.1.now)) result (catsearch_at lexemes.now) }
+    ensures rest { IfOk result (λ x. length x.1.now ≤ length lexemes.now) }
+{
+    let (column, query, rest) = read_searched(lexemes)?;
+    let (structured, rest) = read_structured(rest)?;
+    let (above, rest) = read_threshold(rest)?;
+    if !is_zero(above) {
+        return Err(StatementFault::Syntax);
+    }
+    Ok((
+        Pred::Catsearch {
+            column,
+            query,
+            structured,
+        },
+        rest,
+    ))
 }
 
 impl Element for Pred {
@@ -110,6 +163,7 @@ impl Element for Pred {
     fn read(alloc: Global, lexemes: &[Lexeme]) -> Result<(Pred, &[Lexeme]), StatementFault> {
         match lexemes {
             [Lexeme::Word(Keyword::Contains), rest @ ..] => read_contains(rest),
+            [Lexeme::Word(Keyword::Catsearch), rest @ ..] => read_catsearch(rest),
             _ => {
                 let (cond, rest) = Cond::read(alloc, lexemes)?;
                 Ok((Pred::Cond(cond), rest))

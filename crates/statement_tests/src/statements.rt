@@ -105,7 +105,18 @@ const FORMS: &[(&str, Option<&str>)] = &[
     ),
     ("CREATE INDEX i ON t(c) INDEXTYPE IS CTXSYS CONTEXT", None),
     ("CREATE INDEX i ON t(c) INDEXTYPE IS CTXSYS.CTXRULE", None),
-    ("CREATE INDEX i ON t(c) INDEXTYPE IS CTXCAT", None),
+    (
+        "CREATE INDEX i ON t(c) INDEXTYPE IS CTXCAT",
+        Some("create index"),
+    ),
+    (
+        "CREATE INDEX i ON t(c) INDEXTYPE IS Ctxsys.Ctxcat PARAMETERS ('INDEX SET s')",
+        Some("create index"),
+    ),
+    (
+        "CREATE INDEX i ON t(c) INDEXTYPE IS CTXSYS.CTXSYS.CTXCAT",
+        None,
+    ),
     (
         "CREATE INDEX i ON t(c) INDEXTYPE IS CONTEXT PARAMETERS ('')",
         Some("create index"),
@@ -178,7 +189,25 @@ const FORMS: &[(&str, Option<&str>)] = &[
         "SELECT a FROM t WHERE CONTAINS(b,'x') > 0, CONTAINS(b,'y') > 0",
         None,
     ),
-    ("SELECT a FROM t WHERE CATSEARCH(b,'x',NULL) > 0", None),
+    (
+        "SELECT a FROM t WHERE CATSEARCH(b,'x',NULL) > 0",
+        Some("select"),
+    ),
+    (
+        "SELECT a FROM t WHERE a = 1 AND CatSearch ( b , '' , 'c > 1' ) > 00",
+        Some("select"),
+    ),
+    ("SELECT a FROM t WHERE CATSEARCH(b,'x',NULL) > 1", None),
+    ("SELECT a FROM t WHERE CATSEARCH(b,'x',NULL) > -0", None),
+    ("SELECT a FROM t WHERE CATSEARCH(b,'x',NULL) >= 0", None),
+    ("SELECT a FROM t WHERE CATSEARCH(b,'x') > 0", None),
+    ("SELECT a FROM t WHERE CATSEARCH(b,'x',1) > 0", None),
+    ("SELECT a FROM t WHERE CATSEARCH(b,NULL,'x') > 0", None),
+    ("SELECT a FROM t WHERE CATSEARCH(b,'x',NULL,1) > 0", None),
+    (
+        "SELECT a FROM t WHERE CATSEARCH(b,'x',NULL) > 0 AND CONTAINS(b,'x') > 0",
+        None,
+    ),
     ("SELECT a FROM t WHERE MATCHES(b,'x') > 0", None),
     ("SELECT a FROM t WHERE CONTAINS(b,'x') > 0 ORDER BY a", None),
     ("SELECT a FROM t ORDER BY a", None),

@@ -6,7 +6,7 @@ use Rattle.std.specs.Char.{to_ascii_lowercase}
 use Rattle.std.specs.Str.{chars}
 use lib.Utf8.{encode}
 use Rattle.tx_prefs.specs.declared.kinds.PrefKind.{PrefKind}
-use Rattle.tx_prefs.specs.declared.kinds.PrefKind.TheVariants.{Lexer, Stoplist, SectionGroup}
+use Rattle.tx_prefs.specs.declared.kinds.PrefKind.TheVariants.{Lexer, Stoplist, SectionGroup, IndexSet}
 use Rattle.tx_prefs.specs.declared.requests.Request.{Request}
 use Rattle.tx_prefs.specs.Requests.{asked, parts, request, without_empty}
 
@@ -30,17 +30,19 @@ words_behind w cs = without_empty (onto w (parts cs))
 
 -- ---- requests
 
--- where the first word is `section`, and the second one `group`
-abbrev pub section_group : List ℕ → List (List ℕ) → Option (PrefKind × List (List ℕ))
-section_group w [] = None
-section_group w (v ∷ ws) = if bytes_eq w (codes "section") && bytes_eq v (codes "group") then Some (SectionGroup, ws) else None
+-- where the first two words are `section` and `group`, or `index` and `set`
+abbrev pub two_word_kind : List ℕ → List (List ℕ) → Option (PrefKind × List (List ℕ))
+two_word_kind w [] = None
+two_word_kind w (v ∷ ws) =
+    if bytes_eq w (codes "section") && bytes_eq v (codes "group") then Some (SectionGroup, ws)
+    else (if bytes_eq w (codes "index") && bytes_eq v (codes "set") then Some (IndexSet, ws) else None)
 
 -- the kind that the first words name, and the words behind them
 abbrev pub keyword : List (List ℕ) → Option (PrefKind × List (List ℕ))
 keyword [] = None
 keyword (w ∷ ws) =
     if bytes_eq w (codes "lexer") then Some (Lexer, ws)
-    else (if bytes_eq w (codes "stoplist") then Some (Stoplist, ws) else section_group w ws)
+    else (if bytes_eq w (codes "stoplist") then Some (Stoplist, ws) else two_word_kind w ws)
 
 -- of a kind, the request of the next word, and the words behind it
 abbrev pub named_request : PrefKind → List (List ℕ) → Option (Request × List (List ℕ))
@@ -54,6 +56,9 @@ first_request ws = option_and_then (λ (k : PrefKind × List (List ℕ)). named_
 -- computed examples
 a_lexer : first_request (codes "lexer" ∷ codes "lx" ∷ codes "stoplist" ∷ []) ≡ Some (request Lexer (Some (codes "lx")), codes "stoplist" ∷ [])
 a_lexer = refl
+
+a_set : first_request (codes "index" ∷ codes "set" ∷ codes "s" ∷ []) ≡ Some (request IndexSet (Some (codes "s")), [])
+a_set = refl
 
 no_group : first_request (codes "section" ∷ codes "g" ∷ []) ≡ None
 no_group = refl

@@ -1,6 +1,7 @@
--- The PARAMETERS of CREATE INDEX: what a CONTEXT index asks for.
-use Rattle.std.specs.Prelude.{ℕ, ◌≡◌, Bool, true, false, not, ◌&&◌, List, [], ◌∷◌, ◌++◌, Option, Some, None, bytes_eq, codes, refl}
+-- The PARAMETERS of CREATE INDEX: what an index asks for.
+use Rattle.std.specs.Prelude.{ℕ, ◌≡◌, Bool, true, false, not, ◌&&◌, ◌||◌, List, [], ◌∷◌, ◌++◌, Option, Some, None, bytes_eq, codes, refl}
 use Rattle.std.specs.Bool.{if◌then◌else◌}
+use Rattle.std.specs.List.{list_all}
 use Rattle.std.specs.Option.{option_and_then}
 use Rattle.std.specs.Char.{is_whitespace, to_ascii_lowercase}
 use Rattle.std.specs.Str.{chars}
@@ -67,7 +68,7 @@ abbrev pub with_request : PrefKind → Option Request → List Request → Optio
 with_request kind None rs = None
 with_request kind (Some r) rs = if is_free kind rs then Some (rs ++ r ∷ []) else None
 
--- The requests that words spell behind those that were read: LEXER, STOPLIST or SECTION GROUP and a name, each once at most.
+-- The requests that words spell behind those that were read: LEXER, STOPLIST, SECTION GROUP or INDEX SET and a name, each once at most.
 abbrev pub requests_from : List Request → List (List ℕ) → Option (List Request)
 requests_from rs [] = Some rs
 requests_from rs (w ∷ []) = None
@@ -78,11 +79,20 @@ requests_from rs (w ∷ v ∷ x ∷ ws) =
     if bytes_eq w (codes "lexer") then option_and_then (λ more. requests_from more (x ∷ ws)) (with_request Lexer (asked Lexer v) rs)
     else (if bytes_eq w (codes "stoplist") then option_and_then (λ more. requests_from more (x ∷ ws)) (with_request Stoplist (asked Stoplist v) rs)
     else (if bytes_eq w (codes "section") && bytes_eq v (codes "group") then option_and_then (λ more. requests_from more ws) (with_request SectionGroup (asked SectionGroup x) rs)
-    else None))
+    else (if bytes_eq w (codes "index") && bytes_eq v (codes "set") then option_and_then (λ more. requests_from more ws) (with_request IndexSet (asked IndexSet x) rs)
+    else None)))
 
 -- the requests of a PARAMETERS text, in its order; None where it isn't of its form
 abbrev pub requests_of : List ℕ → Option (List Request)
 requests_of text = requests_from [] (words (chars text))
+
+-- whether a kind is one of these, and whether each request is of one of them
+abbrev pub is_kind_among : PrefKind → List PrefKind → Bool
+is_kind_among kind [] = false
+is_kind_among kind (other ∷ others) = is_of other kind || is_kind_among kind others
+
+abbrev pub asks_only : List PrefKind → List Request → Bool
+asks_only kinds rs = list_all (λ (r : Request). is_kind_among r.kind kinds) rs
 
 -- ---- what they ask for
 
@@ -108,6 +118,10 @@ two_asked : requests_of (codes " Lexer LX\nSECTION group ctxsys.Null_Section_Gro
 unfolding chars encode
 two_asked = refl
 
+a_set_asked : requests_of (codes "index SET S lexer ctxsys.default_lexer") ≡ Some (request IndexSet (Some (codes "s")) ∷ request Lexer None ∷ [])
+unfolding chars encode
+a_set_asked = refl
+
 nothing_asked : requests_of [] ≡ Some []
 unfolding chars encode
 nothing_asked = refl
@@ -116,6 +130,14 @@ twice : requests_of (codes "lexer a lexer b") ≡ None
 unfolding chars encode
 twice = refl
 
+two_sets : requests_of (codes "index set a index set a") ≡ None
+unfolding chars encode
+two_sets = refl
+
+no_set : requests_of (codes "index set") ≡ None
+unfolding chars encode
+no_set = refl
+
 no_group : requests_of (codes "section g") ≡ None
 unfolding chars encode
 no_group = refl
@@ -123,6 +145,12 @@ no_group = refl
 another_word : requests_of (codes "lexer a transactional") ≡ None
 unfolding chars encode
 another_word = refl
+
+a_group_in_a_catalogue : asks_only (Lexer ∷ Stoplist ∷ IndexSet ∷ []) (request IndexSet (Some (codes "s")) ∷ request SectionGroup None ∷ []) ≡ false
+a_group_in_a_catalogue = refl
+
+what_a_catalogue_takes : asks_only (Lexer ∷ Stoplist ∷ IndexSet ∷ []) (request IndexSet (Some (codes "s")) ∷ request Stoplist None ∷ []) ≡ true
+what_a_catalogue_takes = refl
 
 a_lexer_alone : requested_parameters (request Lexer (Some (codes "lx")) ∷ []) ≡ record { lexer = Some (codes "lx"); stoplist = None; group = None }
 a_lexer_alone = refl

@@ -22,7 +22,7 @@ pub use lookups::{
     has_named, index_set, is_kind_full, lexer_settings, section_group, stoplist_words,
 };
 pub use parameters::Parameters;
-pub use requests::{Request, read_requests, requested_parameters};
+pub use requests::{Request, asks_only, read_requests, requested_parameters, requested_set};
 pub use settings::with_setting;
 pub use shapes::is_pref_shape;
 pub use unknown_names::unknown_request;

@@ -1,11 +1,12 @@
-//! The PARAMETERS of a CREATE INDEX: what a CONTEXT index asks for.
+//! The PARAMETERS of a CREATE INDEX: what an index asks for.
 
 ghost use Rattle.std.specs.Prelude.{◌≡◌, ◌<◌, [], true, IfOk, IfSome, bytes_eq, codes, length, map, nat_lt};
 ghost use Rattle.std.specs.List.{list_all};
 ghost use Rattle.std.specs.Option.{option_map};
 ghost use Rattle.std.specs.Char.{to_ascii_lowercase};
-ghost use Rattle.tx_prefs.specs.Requests.{asked, is_default, is_free, is_of, name_for, requested_parameters, requests_from, requests_of};
+ghost use Rattle.tx_prefs.specs.Requests.{asked, asks_only, is_kind_among, is_default, is_free, is_of, name_for, requested_parameters, requests_from, requests_of};
 ghost use Rattle.tx_prefs.specs.RequestWords.{first_request, keyword, read_word};
+ghost use Rattle.tx_prefs.specs.declared.kinds.PrefKind.TheVariants.{IndexSet};
 
 use crate::kinds::PrefKind;
 use crate::parameters::Parameters;
@@ -20,9 +21,10 @@ pub struct Request {
     pub name: Option<Name>,
 }
 
-/// The requests of a PARAMETERS text, in its order: LEXER, STOPLIST or SECTION GROUP, and then a name. The name of the default is
-/// CTXSYS.DEFAULT_LEXER, CTXSYS.EMPTY_STOPLIST or CTXSYS.NULL_SECTION_GROUP. Words are read in any ASCII case and separated by white
-/// space; each kind comes at most once. None exactly where the text isn't of this form. Its cost is linear in the length of the text.
+/// The requests of a PARAMETERS text, in its order: LEXER, STOPLIST, SECTION GROUP or INDEX SET, and then a name. The name of the
+/// default is CTXSYS.DEFAULT_LEXER, CTXSYS.EMPTY_STOPLIST or CTXSYS.NULL_SECTION_GROUP; index sets have no default. Words are read in
+/// any ASCII case and separated by white space; each kind comes at most once. None exactly where the text isn't of this form. Its
+/// cost is linear in the length of the text.
 pub fn read_requests(alloc: Global, text: &str) -> Result<Option<Vec<Request>>, Memory>
     ensures { IfOk result (λ found. option_map (λ v. v.items) found ≡ requests_of text.now) }
 {
@@ -105,10 +107,12 @@ fn keyword(words: &[Text]) -> Option<(PrefKind, &[Text])>
         return None;
     };
     if is_word(first, "section") && is_word(second, "group") {
-        Some((PrefKind::SectionGroup, rest))
-    } else {
-        None
+        return Some((PrefKind::SectionGroup, rest));
     }
+    if is_word(first, "index") && is_word(second, "set") {
+        return Some((PrefKind::IndexSet, rest));
+    }
+    None
 }
 
 /// What a word asks for: a name, or that of the default.
@@ -149,7 +153,37 @@ fn is_word(text: &Text, word: &str) -> bool
     text.as_str().eq_ignore_ascii_case(word)
 }
 
-/// What requests ask for, each kind by the first request of it. Its cost is linear in the number of requests.
+/// Whether each request is of one of these kinds. An index type takes only some kinds of requests. Its cost is linear in the number
+/// of requests times the number of kinds.
+pub fn asks_only(kinds: &[PrefKind], requests: &[Request]) -> bool
+    ensures { result ≡ asks_only kinds.now requests.now }
+{
+    let mut rest = requests;
+    while let [first, later @ ..] = rest {
+        if !is_kind_among(first.kind, kinds) {
+            return false;
+        }
+        rest = later;
+    }
+    true
+}
+
+/// Whether a kind is one of these.
+fn is_kind_among(kind: PrefKind, kinds: &[PrefKind]) -> bool
+    ensures { result ≡ is_kind_among kind kinds.now }
+{
+    let mut rest = kinds;
+    while let [first, later @ ..] = rest {
+        if is_of(*first, kind) {
+            return true;
+        }
+        rest = later;
+    }
+    false
+}
+
+/// The lexer preference, the stoplist and the section group that requests ask for, each by the first request of its kind. Its cost is
+/// linear in the number of requests.
 pub fn requested_parameters(requests: &[Request]) -> Result<Parameters, Memory>
     ensures { IfOk result (λ parameters. parameters ≡ requested_parameters requests.now) }
 {
@@ -158,6 +192,14 @@ pub fn requested_parameters(requests: &[Request]) -> Result<Parameters, Memory>
         stoplist: name_for(PrefKind::Stoplist, requests)?,
         group: name_for(PrefKind::SectionGroup, requests)?,
     })
+}
+
+/// The name of the index set that requests ask for, by the first request of one. None where there is no such request. Its cost is
+/// linear in the number of requests.
+pub fn requested_set(requests: &[Request]) -> Result<Option<Name>, Memory>
+    ensures { IfOk result (λ name. name ≡ name_for IndexSet requests.now) }
+{
+    name_for(PrefKind::IndexSet, requests)
 }
 
 /// The name in the first request of the kind, if there is one that has a name.

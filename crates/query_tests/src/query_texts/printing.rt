@@ -40,6 +40,16 @@ fn fault_parts(fault: &QueryFault) -> (&'static str, u32) {
 
 fn put_fault(alloc: Global, out: &mut String, fault: &QueryFault) -> Result<(), Memory> {
     let (name, place) = fault_parts(fault);
+    put_place(alloc, out, name, place)
+}
+
+/// The name of a fault, and the place that it has, where that isn't 0.
+pub(crate) fn put_place(
+    alloc: Global,
+    out: &mut String,
+    name: &str,
+    place: u32,
+) -> Result<(), Memory> {
     out.push_str(name)?;
     if place > 0 {
         let place = format!(in alloc; " {place}")?;
@@ -49,7 +59,7 @@ fn put_fault(alloc: Global, out: &mut String, fault: &QueryFault) -> Result<(), 
 }
 
 /// Its cost is linear in the size of the tree, and it goes as deep.
-fn put_query(alloc: Global, out: &mut String, query: &Query) -> Result<(), Memory> {
+pub(crate) fn put_query(alloc: Global, out: &mut String, query: &Query) -> Result<(), Memory> {
     match query {
         Query::Leaf(leaf) => return put_leaf(alloc, out, leaf),
         Query::And(a, b) | Query::Or(a, b) | Query::Not(a, b) | Query::Minus(a, b) => {
