@@ -1,81 +1,30 @@
 -- Steps of making a new catalogue.
-use Rattle.std.proofs.Common.{◌≡◌, ℕ, ℤ, ◌≤◌, ◌^◌, zero, suc, Bool, true, false, List, [], ◌∷◌, ◌++◌, length, map, Option, Some, None, refl, sym, ap, ◌∙◌, arith, append_assoc}
-use Rattle.std.specs.Prelude.{◌||◌, ◌&&◌, is_some, nat_le}
-use Rattle.std.proofs.lemmas.Bool.{and_from, and_parts}
-use Rattle.std.specs.List.{list_all, list_any}
+use Rattle.std.proofs.Common.{◌≡◌, ℕ, ℤ, Bool, true, false, List, [], ◌∷◌, ◌++◌, map, Option, Some, None, refl, sym, ap, ◌∙◌, append_assoc}
+use Rattle.std.specs.Prelude.{◌||◌, is_some}
+use Rattle.std.specs.List.{list_any}
 use Rattle.std.specs.Ordering.{int_cmp, int_eq}
 use Rattle.std.specs.FinMap.{get, get-empty, contains_key-keys}
 use Rattle.std.specs.Option.{option_map}
-use Rattle.std.proofs.lemmas.List.{length-map}
 use Rattle.std.proofs.lemmas.Option.{same_Some}
-use Rattle.ct_base.specs.Limits.{sub_index_limit}
 use Rattle.ct_base.specs.declared.lists.Value.{Value}
-use Rattle.ct_base.specs.declared.lists.Value.TheVariants.{Number as NumberValue, Text as TextValue}
 use Rattle.ct_base.specs.declared.numbers.RowKey.{RowKey}
 use Rattle.ct_entry.specs.Changes.{spell}
 use Rattle.ct_entry.specs.laws.Changes.{spell-append}
 use Rattle.ct_entry.specs.laws.Maps.{entries-none}
 use Rattle.ct_entry.specs.laws.Parts.{int_same}
-use Rattle.tb_table.specs.declared.columns.Sort.{Sort}
-use Rattle.tb_table.specs.declared.columns.Sort.TheVariants.{Number, Varchar2, Clob}
 use Rattle.tb_table.specs.declared.columns.Column.{Column}
-use Rattle.tb_table.specs.Tables.{Table, Tables, as_text, text_in, text_in_column, keys_in, row_keys}
-use Rattle.tb_table.specs.Rules.{FitColumns, HasAllowedSize, AllColumns, IsOfSort, IsTable, others}
+use Rattle.tb_table.specs.Tables.{Table, Tables, text_in_column, keys_in, row_keys}
+use Rattle.tb_table.specs.Rules.{others}
 use Rattle.tx_settings.specs.declared.preferences.Prefs.{Prefs}
-use Rattle.tx_sets.specs.Sets.{are_sub_indexes, is_sub_index, sub_column_limit}
-use Rattle.tx_sets.specs.laws.Sets.{each_sub_index, few_sub_indexes}
 use Rattle.ix_kinds.specs.Rows.{row_keys_of, table_at, table_or_none}
 use Rattle.ix_kinds.specs.Indextypes.{IndexOf}
 use Rattle.cat_index.specs.declared.catalogues.Catalogue.{Catalogue}
-use Rattle.cat_index.specs.Filings.{IsShortOrNone, filing_by, fit_sub_index}
-use Rattle.cat_index.specs.Catalogues.{CatalogueBody, filing, filing_of, place_of, places_in, value_at}
+use Rattle.cat_index.specs.Filings.{filing_by}
+use Rattle.cat_index.specs.Catalogues.{CatalogueBody, filing, filing_of, value_at}
 use Rattle.cat_index.specs.Changes.{filing_changes, rows_come}
 use Rattle.cat_index.specs.Kind.{as_index, create_changes}
 use Rattle.cat_index.specs.Sees.{AreThere}
 use Rattle.cat_index.specs.Spelling.{catalogue_change}
-
--- ---- texts of tables are short
-
-short_value : (c : Column) (v : Value) → IsOfSort c.sort v → HasAllowedSize c.sort → IsShortOrNone (as_text v)
-short_value c (NumberValue n) fits allowed = tt
-short_value c (TextValue t) fits allowed = go c.sort fits allowed
-  where
-    go : (s : Sort) → IsOfSort s (TextValue t) → HasAllowedSize s → length t ≤ 2 ^ 19
-    go Number fits allowed = absurd fits
-    go (Varchar2 size) fits allowed = let short = fits.0 in let most = allowed.1 in omega (arith, short, most)
-    go Clob fits allowed = let short = fits.0 in omega (arith, short)
-
-short_text : (cs : List Column) (vs : List Value) (place : ℕ) → AllColumns cs → FitColumns cs vs → IsShortOrNone (text_in vs place)
-short_text cs [] place are fit = tt
-short_text [] (v ∷ vs) place are fit = absurd fit
-short_text (c ∷ cs) (v ∷ vs) zero are fit = short_value c v fit.0 are.1
-short_text (c ∷ cs) (v ∷ vs) (suc place) are fit = short_text cs vs place are.2 fit.1
-
-pub text_is_short : (x : Table) (r : ℤ) (vs : List Value) (column : ℕ) → IsTable x → get x.rows r ≡ Some vs → IsShortOrNone (text_in_column vs column)
-text_is_short x r vs zero is there = tt
-text_is_short x r vs (suc place) is there = short_text (others x.columns) vs place (behind x.columns is.columns.each) (is.rows r vs there)
-  where
-    behind : (cs : List Column) → AllColumns cs → AllColumns (others cs)
-    behind [] are = tt
-    behind (c ∷ cs) are = are.2
-
--- ---- places within the limits
-
-fit_places : (cs : List Column) (set : List (List (List ℕ))) → list_all is_sub_index set ≡ true → list_all fit_sub_index (places_in cs set) ≡ true
-fit_places cs [] each = refl
-fit_places cs (names ∷ set) each =
-    let p = and_parts (is_sub_index names) (list_all is_sub_index set) each in
-    and_from (fit_sub_index (map (place_of cs) names)) (list_all fit_sub_index (places_in cs set)) (ap (λ (n : ℕ). nat_le 1 n && nat_le n sub_column_limit) (length-map names (place_of cs)) ∙ p.0) (fit_places cs set p.1)
-
-pub each_fits : (cs : List Column) (set : List (List (List ℕ))) (places : List (List ℕ)) → places ≡ places_in cs set → are_sub_indexes set ≡ true → list_all fit_sub_index places ≡ true
-each_fits cs set places is are = ap (list_all fit_sub_index) is ∙ fit_places cs set (each_sub_index set are)
-
-pub few_places : (cs : List Column) (set : List (List (List ℕ))) (places : List (List ℕ)) → places ≡ places_in cs set → are_sub_indexes set ≡ true → length places ≤ sub_index_limit
-few_places cs set places is are =
-    let long = ap length is in
-    let same = length-map set (map (place_of cs)) in
-    let few = few_sub_indexes set are in
-    omega (arith, long, same, few)
 
 -- ---- rows that come
 

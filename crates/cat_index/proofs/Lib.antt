@@ -3,3 +3,4 @@ pub mod FilingSteps
 pub mod EntrySteps
 pub mod ReadSteps
 pub mod CreateSteps
+pub mod ShapeSteps

@@ -19,7 +19,7 @@ use Rattle.cat_index.specs.declared.catalogues.Catalogue.{Catalogue as NewCatalo
 use Rattle.cat_index.specs.declared.filings.Filing.{Filing}
 use Rattle.cat_index.specs.Catalogues.{CatalogueBody, filing, has_place, places_in, docs_names, docs_catalogue}
 use Rattle.cat_index.specs.Spelling.{catalogue_bytes, rest_bytes}
-use Rattle.cat_index.specs.Rules.{AreSubIndexes, IsCatalogue}
+use Rattle.cat_index.specs.Rules.{IsAskedFor, IsCatalogue}
 use Rattle.cat_index.specs.Changes.{changes_of_row, rows_come}
 use Rattle.cat_index.specs.Standing.{CatalogueStands}
 
@@ -87,7 +87,7 @@ catalogue {D} = record {
   can_sync = λ x. false;
   after_sync = λ d t x. x.body;
   sync_changes = λ d t i x. [];
-  asks = λ t names. AreSubIndexes t.columns names;
+  asks = IsAskedFor;
   can_create = λ t names. true;
   new_body = λ names d t target prefs. new_catalogue t.columns names;
   create_changes = λ names d t i target prefs. create_changes t i (new_catalogue_on t target prefs names);

@@ -4,9 +4,11 @@ pub mod Spelling
 pub mod Rules
 pub mod Changes
 pub mod Standing
+pub mod Entries
 pub mod Kind
 pub mod KindPromises
 pub mod Sees
 pub mod Shapes
 pub mod Parts
+pub mod PartReadings
 pub mod laws

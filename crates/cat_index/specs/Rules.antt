@@ -10,6 +10,8 @@ use Rattle.tb_table.specs.declared.columns.Sort.{Sort}
 use Rattle.tb_table.specs.declared.columns.Sort.TheVariants.{Number, Varchar2, Clob}
 use Rattle.tb_table.specs.declared.columns.Column.{Column}
 use Rattle.tb_table.specs.Tables.{Table, docs_columns, docs_table}
+use Rattle.tx_tags.specs.Groups.{no_sections}
+use Rattle.tx_settings.specs.declared.preferences.Prefs.{Prefs}
 use Rattle.tx_sets.specs.Sets.{are_sub_indexes}
 use Rattle.ix_kinds.specs.Indextypes.{IndexOf}
 use Rattle.cat_index.specs.Filings.{sub_text_limit}
@@ -36,14 +38,19 @@ pub record AreSubIndexes (cs : List Column) (names : List (List (List ℕ))) : T
   pub named : list_all (list_all is_kept) names ≡ true
   pub columns : EachIs (EachIs (λ name. IsSubColumn (column_named cs name))) names
 
--- These are the sub-indexes of a catalogue, by the names of the columns and by their places.
+-- What CREATE INDEX may ask for: such sub-indexes, and preferences without sections.
+pub record IsAskedFor (t : Table) (prefs : Prefs) (names : List (List (List ℕ))) : Type 0 where
+  pub subs : AreSubIndexes t.columns names
+  pub group : prefs.group ≡ no_sections
+
+-- These are the sub-indexes of a catalogue, by the names of the columns and by their places; and it knows no sections.
 pub record IsCatalogue (t : Table) (x : IndexOf CatalogueBody) : Type 0 where
-  pub subs : AreSubIndexes t.columns x.body.names
+  pub asked : IsAskedFor t x.prefs x.body.names
   pub places : x.body.places ≡ places_in t.columns x.body.names
 
 -- computed examples: of the columns `id`, `body` and `price` of the table `docs` the first and the last may be in a sub-index
 of_docs : IsCatalogue docs_table docs_catalogue
-of_docs = record { subs = record { few = refl; named = refl; columns = ((tt, tt), ((tt, (tt, tt)), tt)) }; places = refl }
+of_docs = record { asked = record { subs = record { few = refl; named = refl; columns = ((tt, tt), ((tt, (tt, tt)), tt)) }; group = refl }; places = refl }
 
 no_clob : IsSubColumn (column_named docs_columns (codes "body")) → ⊥
 no_clob is = is

@@ -4,3 +4,7 @@ pub mod Rows
 pub mod Kind
 pub mod Filings
 pub mod Shapes
+pub mod Limits
+pub mod Filed
+pub mod Well
+pub mod Weights

@@ -22,7 +22,7 @@ use tx_document::{Entry, analyse};
 use tx_settings::Prefs;
 
 /// How many bytes a text in a column of a sub-index has at most.
-const SUB_TEXT_LIMIT: usize = 100;
+pub(crate) const SUB_TEXT_LIMIT: usize = 100;
 
 /// How many bytes of text are read: far more than a text of a table has.
 const TEXT_LIMIT: usize = 1 << 19;

@@ -9,6 +9,7 @@ mod filings;
 mod laws;
 mod reading;
 mod rows;
+mod shapes;
 
 pub use catalogues::Catalogue;
 pub use creating::{create, places_in};
@@ -17,3 +18,4 @@ pub use filings::{Filing, row_filing};
 pub use laws::catalogues_keep_the_laws;
 pub use reading::row_values;
 pub use rows::{row_comes, row_goes, row_is_set};
+pub use shapes::is_catalogue_shape;

@@ -96,7 +96,7 @@ items_are_at value places h each =
     record { items = map value_bytes (map value places); some = omega (arith, one, long, some); few = omega (arith, one, long, few); each = each; spelt = joined_values (map value places) }
 
 -- those of sub-indexes that have columns
-with_columns : (n : ℕ) (v : List ℕ) → 1 ≤ n → AreItems sub_column_limit v → AreSubValues n v
+pub with_columns : (n : ℕ) (v : List ℕ) → 1 ≤ n → AreItems sub_column_limit v → AreSubValues n v
 with_columns zero v some are = absurd (omega (arith, some))
 with_columns (suc n) v some are = are
 

@@ -109,7 +109,7 @@ same_filing x r (Some old) (Some new) there same = same_values x r old new same
 -- tables of the same columns have the same rules for it
 same_rules : (x : IndexOf CatalogueBody) (t u : Table) → u.columns ≡ t.columns → IsCatalogue t x → IsCatalogue u x
 same_rules x t u same is = record {
-  subs = subst (λ (cs : List Column). AreSubIndexes cs x.body.names) (sym same) is.subs;
+  asked = record { subs = subst (λ (cs : List Column). AreSubIndexes cs x.body.names) (sym same) is.asked.subs; group = is.asked.group };
   places = subst (λ (cs : List Column). x.body.places ≡ places_in cs x.body.names) (sym same) is.places;
 }
 
@@ -168,16 +168,16 @@ created f i x t is none = record {
 pub entry_is : (D : Type 0) (x : IndexOf CatalogueBody) → catalogue_entry x ≡ index_entry (catalogue {D = D}) x
 entry_is D x = sym (append_assoc (2 ∷ text_bytes x.table) (x.column ∷ []) (rest_bytes x.prefs x.body.names))
 
-abbrev head_of : IndexOf CatalogueBody → IndexHead
+abbrev pub head_of : IndexOf CatalogueBody → IndexHead
 head_of x = record { kind = Catalogue; target = record { table = x.table; column = x.column } }
 
 -- What an entry says, of two.
-record SameParts (x y : IndexOf CatalogueBody) : Type 0 where
-  head : head_of x ≡ head_of y
-  prefs : x.prefs ≡ y.prefs
-  names : x.body.names ≡ y.body.names
+pub record SameParts (x y : IndexOf CatalogueBody) : Type 0 where
+  pub head : head_of x ≡ head_of y
+  pub prefs : x.prefs ≡ y.prefs
+  pub names : x.body.names ≡ y.body.names
 
-parts_one : (D : Type 0) (x y : IndexOf CatalogueBody) → IsPrefs x.prefs → IsPrefs y.prefs → index_entry (catalogue {D = D}) x ≡ index_entry (catalogue {D = D}) y → SameParts x y
+pub parts_one : (D : Type 0) (x y : IndexOf CatalogueBody) → IsPrefs x.prefs → IsPrefs y.prefs → index_entry (catalogue {D = D}) x ≡ index_entry (catalogue {D = D}) y → SameParts x y
 parts_one D x y x_prefs y_prefs e =
     let head = head_apart (head_of x) (head_of y) (rest_bytes x.prefs x.body.names) (rest_bytes y.prefs y.body.names) e in
     let head_is : index_head_bytes Catalogue x.table x.column ≡ index_head_bytes Catalogue y.table y.column = ap (λ (h : IndexHead). index_head_bytes Catalogue h.target.table h.target.column) head in
@@ -238,7 +238,7 @@ module _ {D : Type 0} where
         not_own _ (rows_on i (new_catalogue_on t target prefs a) t (row_keys_of t)).rows i (told (put_value (key kind.Indexes i []) (catalogue_entry (new_catalogue_on t target prefs a)) ∷ []) (key kind.Indexes i []) old)
         ∙ ap (λ (b : Bool). cond b (Some (catalogue_entry (new_catalogue_on t target prefs a))) old) (key_same (key kind.Indexes i []))
         ∙ ap Some (entry_is D (new_catalogue_on t target prefs a));
-    is = λ a d t target prefs is texts prefs_are asks can. record { subs = asks; places = refl };
+    is = λ a d t target prefs is texts prefs_are asks can. record { asked = asks; places = refl };
     stands = λ f a d t i target prefs is texts prefs_are asks can none.
         created (view (put_value (key kind.Indexes i []) (catalogue_entry (new_catalogue_on t target prefs a)) ∷ []) f) i (new_catalogue_on t target prefs a) t is (λ part. none (key kind.Catalogue i part) refl refl);
   }

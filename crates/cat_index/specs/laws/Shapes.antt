@@ -56,7 +56,7 @@ part_length s t v r =
     let c = length-row_bytes r in
     omega (arith, a, b, c)
 
-word_entry : (i : List ℕ) (s : ℕ) (t v : List ℕ) (r : ℤ) → IsName i → IsToken t → AreSubValues s v → IsEntry (bytes (key kind.Catalogue i (catalogue_part s t v r))) []
+pub word_entry : (i : List ℕ) (s : ℕ) (t v : List ℕ) (r : ℤ) → IsName i → IsToken t → AreSubValues s v → IsEntry (bytes (key kind.Catalogue i (catalogue_part s t v r))) []
 word_entry i s t v r name token are =
     let named = name_length i name in
     let short = token.short in
@@ -115,7 +115,7 @@ set_shaped i r old new name row was is = setting_shaped i r 0 old.words new.word
 
 -- ---- catalogues
 
-length-catalogue_bytes_le : (x : Catalogue) → IsSpellable x → length (catalogue_bytes x) ≤ 2200000
+pub length-catalogue_bytes_le : (x : Catalogue) → IsSpellable x → length (catalogue_bytes x) ≤ 2200000
 length-catalogue_bytes_le x is =
     let table = text_length x.target.table 30 (name_length x.target.table is.table).1 in
     let prefs = prefs_are_short x.prefs is.prefs in

@@ -7,7 +7,8 @@ use Rattle.tb_table.specs.laws.Reading.{rows_read}
 use Rattle.ix_kinds.specs.Rows.{table_at}
 use Rattle.cat_index.specs.Catalogues.{places_in}
 use Rattle.cat_index.specs.Shapes.{HasCatalogueValue}
-use Rattle.cat_index.proofs.CreateSteps.{created_added, each_fits, few_places, keys_of_table, listed_there}
+use Rattle.cat_index.specs.laws.Limits.{each_fits, few_places}
+use Rattle.cat_index.proofs.CreateSteps.{created_added, keys_of_table, listed_there}
 use Rattle.cat_index.proofs.creating.changes_over.Goals as goal
 
 pub put_rows-requires-clause-few : goal.put_rows-requires-clause-few

@@ -5,7 +5,8 @@ use Rattle.cat_index.specs.declared.filings.Filing.{Filing}
 use Rattle.cat_index.specs.Catalogues.{places_in}
 use Rattle.cat_index.specs.Changes.{filing_changes}
 use Rattle.cat_index.specs.Filings.{IsShortOrNone}
-use Rattle.cat_index.proofs.CreateSteps.{row_filed, text_is_short}
+use Rattle.cat_index.specs.laws.Limits.{text_is_short}
+use Rattle.cat_index.proofs.CreateSteps.{row_filed}
 use Rattle.cat_index.proofs.creating.put_row.Goals as goal
 
 pub returns-clause-changes : goal.returns-clause-changes

@@ -1,0 +1,4 @@
+use Rattle.cat_index.proofs.shapes.+are_items.Given as goal
+
+abbrev pub decreases-are_items : goal.decreases-are_items
+decreases-are_items l = l.most
