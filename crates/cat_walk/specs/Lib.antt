@@ -1,2 +1,3 @@
+pub mod Looks
 pub mod Places
 pub mod Walks

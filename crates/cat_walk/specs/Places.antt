@@ -1,12 +1,14 @@
 -- The places of a catalogue's entries under a word, in their order.
-use Rattle.std.specs.Prelude.{ℕ, ◌≡◌, Bool, true, false, List, [], ◌∷◌, ◌++◌, Option, Some, None, is_some, Vec, codes, refl}
+use Rattle.std.specs.Prelude.{ℕ, ◌≡◌, Bool, true, false, ◌&&◌, List, [], ◌∷◌, ◌++◌, Option, Some, None, is_some, Vec, bytes_eq, codes, refl}
 use Rattle.std.specs.Bool.{if◌then◌else◌}
+use Rattle.std.specs.List.{list_any}
 use Rattle.std.specs.Option.{option_map}
 use Rattle.std.specs.FinMap.{get}
 use Rattle.std.specs.declared.alloc.Global.{Global}
 use Rattle.std.specs.Ordering.{nat_cmp, is_lt}
 use Rattle.std.specs.Cmp.Lexicographic.{slice_cmp}
 use Rattle.ct_keep.specs.Content.{Content}
+use Rattle.ct_entry.specs.Keys.{same_list}
 
 -- All keys of a sub-index begin with its stem. Behind it stands the word, after its length, and then the place: the values by which the sub-index is in
 -- order, and the row. This is whether the word, so spelt, has an entry at a place.
@@ -38,6 +40,23 @@ lesser (Some a) (Some b) = if comes_before a b then Some a else Some b
 lesser (Some a) None = Some a
 lesser None b = b
 
+-- ---- lists of places
+
+-- a place is one of a list
+abbrev pub is_listed : List (List ℕ) → List ℕ → Bool
+is_listed places place = list_any (same_list place) places
+
+-- it is the first of them
+abbrev pub is_first : List (List ℕ) → List ℕ → Bool
+is_first [] place = false
+is_first (p ∷ ps) place = bytes_eq p place
+
+-- PLACES RISE: each comes before the next, so each stands once
+abbrev pub places_rise : List (List ℕ) → Bool
+places_rise [] = true
+places_rise (p ∷ []) = true
+places_rise (p ∷ q ∷ ps) = comes_before p q && places_rise (q ∷ ps)
+
 -- computed examples: of two places the one that begins with the lesser byte comes before the other, and one comes before what goes on behind it
 by_their_bytes : comes_before (1 ∷ 9 ∷ []) (2 ∷ []) ≡ true
 by_their_bytes = refl
@@ -47,3 +66,15 @@ before_the_longer = refl
 
 not_before_itself : comes_before (codes "a") (codes "a") ≡ false
 not_before_itself = refl
+
+these_rise : places_rise ((1 ∷ []) ∷ (1 ∷ 5 ∷ []) ∷ (2 ∷ []) ∷ []) ≡ true
+these_rise = refl
+
+none_stands_twice : places_rise ((1 ∷ []) ∷ (1 ∷ []) ∷ []) ≡ false
+none_stands_twice = refl
+
+the_second_is_listed : is_listed ((1 ∷ []) ∷ (2 ∷ []) ∷ []) (2 ∷ []) ≡ true
+the_second_is_listed = refl
+
+and_is_not_the_first : is_first ((1 ∷ []) ∷ (2 ∷ []) ∷ []) (2 ∷ []) ≡ false
+and_is_not_the_first = refl

@@ -1,25 +1,18 @@
 //! The next place at which a walk stops.
-#![tactic(auto, using(ct_keep::specs::laws::Composing::reads_on, ct_keep::specs::laws::Composing::reads_short))]
+#![tactic(auto, using(ct_keep::specs::laws::Composing::reads_on, ct_keep::specs::laws::Composing::reads_short, crate::proofs::Looks::spares_on))]
 
-ghost use Rattle.std.specs.Prelude.{◌≡◌, IfOk};
+ghost use Rattle.std.specs.Prelude.{◌≡◌, true};
 ghost use Rattle.ct_keep.specs.KeeperViews.{Finds, OnlyReads};
+ghost use Rattle.cat_walk.specs.Looks.{LooksUpNoText};
 ghost use Rattle.cat_walk.specs.Places.{IsNext, has_place, lesser, next_of};
-ghost use Rattle.cat_walk.specs.Walks.{Both, Without, route_of, stops_at};
+ghost use Rattle.cat_walk.specs.Walks.{Both, Without, has_rising_places, route_of, stops_at};
 
+use crate::listed::{copy, next_listed};
 use crate::probing::{joined, stops_at};
 use crate::walks::Walk;
-use ct_base::Memory;
 use ct_keep::{KeepFault, Keeper, next_under};
 use std::alloc::Global;
 use std::cmp::Ordering;
-
-/// The same bytes once more.
-fn copy(alloc: Global, bytes: &[u8]) -> Result<Vec<u8>, Memory>
-    ensures { IfOk result (λ copy. copy.items ≡ bytes.now) }
-{
-    let copy = Vec::from_slice(alloc, bytes)?;
-    Ok(copy)
-}
 
 /// The next place at which a word has an entry. It takes one look-up.
 fn next_of_word<K: Keeper>(
@@ -32,6 +25,7 @@ fn next_of_word<K: Keeper>(
     requires { (K.view keeper.old).ready }
     ensures next { Finds K.view keeper.old result (λ m next. IsNext (has_place m stem.now word.now) after.now (next_of next)) }
     ensures reads { OnlyReads K.view keeper.old keeper.new result }
+    ensures spares { LooksUpNoText stem.now (K.view keeper.old) (K.view keeper.new) }
 {
     let prefix = joined(alloc, stem, word)?;
     match next_under(alloc, keeper, &prefix, after)? {
@@ -64,9 +58,12 @@ fn next_of_both<K: Keeper>(
     b: &Walk,
     after: &[u8],
 ) -> Result<Option<Vec<u8>>, KeepFault>
-    requires { (K.view keeper.old).ready }
+    requires ready { (K.view keeper.old).ready }
+    requires rise_a { has_rising_places (route_of a.now) ≡ true }
+    requires rise_b { has_rising_places (route_of b.now) ≡ true }
     ensures next { Finds K.view keeper.old result (λ m next. IsNext (stops_at (has_place m stem.now) (Both (route_of a.now) (route_of b.now))) after.now (next_of next)) }
     ensures reads { OnlyReads K.view keeper.old keeper.new result }
+    ensures spares { LooksUpNoText stem.now (K.view keeper.old) (K.view keeper.new) }
 {
     let mut last = copy(alloc, after)?;
     'steps: for _ in 0..u64::MAX {
@@ -98,9 +95,12 @@ fn next_without<K: Keeper>(
     b: &Walk,
     after: &[u8],
 ) -> Result<Option<Vec<u8>>, KeepFault>
-    requires { (K.view keeper.old).ready }
+    requires ready { (K.view keeper.old).ready }
+    requires rise_a { has_rising_places (route_of a.now) ≡ true }
+    requires rise_b { has_rising_places (route_of b.now) ≡ true }
     ensures next { Finds K.view keeper.old result (λ m next. IsNext (stops_at (has_place m stem.now) (Without (route_of a.now) (route_of b.now))) after.now (next_of next)) }
     ensures reads { OnlyReads K.view keeper.old keeper.new result }
+    ensures spares { LooksUpNoText stem.now (K.view keeper.old) (K.view keeper.new) }
 {
     let mut last = copy(alloc, after)?;
     'steps: for _ in 0..u64::MAX {
@@ -118,8 +118,9 @@ fn next_without<K: Keeper>(
 
 /// The next place, behind one, at which a walk stops; None where there is none. The stem is what the keys of the sub-index begin with.
 ///
-/// Each step takes a look-up for each word at most. Of two walks that both have to stop, each goes on behind the place at which the other
-/// stopped, so the number of steps is near twice that of the places at which the rarer one stops. It reads no text, and never answers Full.
+/// Each step takes a look-up for each word at most, and a binary search in each list of places. Of two walks that both have to stop, each
+/// goes on behind the place at which the other stopped, so the number of steps is near twice that of the places at which the rarer one
+/// stops. It reads no text, and never answers Full.
 #[cycle(next)]
 pub fn next_place<K: Keeper>(
     alloc: Global,
@@ -128,12 +129,15 @@ pub fn next_place<K: Keeper>(
     walk: &Walk,
     after: &[u8],
 ) -> Result<Option<Vec<u8>>, KeepFault>
-    requires { (K.view keeper.old).ready }
+    requires ready { (K.view keeper.old).ready }
+    requires rise { has_rising_places (route_of walk.now) ≡ true }
     ensures next { Finds K.view keeper.old result (λ m next. IsNext (stops_at (has_place m stem.now) (route_of walk.now)) after.now (next_of next)) }
     ensures reads { OnlyReads K.view keeper.old keeper.new result }
+    ensures spares { LooksUpNoText stem.now (K.view keeper.old) (K.view keeper.new) }
 {
     match walk {
         Walk::Word(word) => next_of_word(alloc, keeper, stem, word.as_slice(), after),
+        Walk::Places(places) => Ok(next_listed(alloc, places.as_slice(), after)?),
         Walk::Both(a, b) => next_of_both(alloc, keeper, stem, a, b, after),
         Walk::Either(a, b) => {
             let first = next_place(alloc, keeper, stem, a, after)?;

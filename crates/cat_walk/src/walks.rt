@@ -1,12 +1,14 @@
 //! What a walk stops at.
 
-use ct_base::Bytes;
+use ct_base::{Bytes, Listed};
 
 /// The places at which a walk stops, by the words that have an entry there.
 #[derive(Drop)]
 pub enum Walk {
     /// Where a word has an entry: its length in one byte, and its bytes.
     Word(Bytes),
+    /// At these places, which rise in the order of bytes, each once.
+    Places(Listed<Bytes>),
     /// Where both walks stop.
     Both(Box<Walk>, Box<Walk>),
     /// Where one of them stops.

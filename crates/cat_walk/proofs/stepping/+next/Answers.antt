@@ -4,6 +4,7 @@ use Rattle.cat_walk.specs.Places.{IsNext, has_place, next_of}
 use Rattle.cat_walk.specs.Walks.{Route, Both, Either, Without, route_of, stops_at}
 use Rattle.cat_walk.proofs.Steps.{nowhere_yet, HoldsNowhere}
 use Rattle.cat_walk.proofs.Parts.{first_ends, first_stops, first_passes, second_ends, second_stops, second_passes, without_ends, without_stops, without_passes, lesser_is_next}
+use Rattle.cat_walk.proofs.Looks.{spares_none, spares_on}
 use Rattle.cat_walk.proofs.Arms.{arm_next, both_route, either_route, next_here, test_here, without_route, word_next, word_route}
 use Rattle.cat_walk.proofs.stepping.+next.Goals as goal
 
@@ -59,7 +60,8 @@ next_of_both-returns-then-branch-2-clause-next g t c = λ m told.
 
 pub next_of_both-steps-init : goal.next_of_both-steps-init
 next_of_both-steps-init g t c = record {
-  reads = reads_none _ c.requires;
+  reads = reads_none _ c.requires.ready;
+  spares = spares_none _ _;
   nowhere = λ m told.
       subst (λ p. HoldsNowhere (stops_at (has_place m c.args.stem.now) (Both (route_of c.args.a.now) (route_of c.args.b.now))) c.args.after.now p) (sym c.in_ok-last.ensures)
       (nowhere_yet _ c.args.after.now);
@@ -68,6 +70,11 @@ next_of_both-steps-init g t c = record {
 pub next_of_both-steps-preserved : goal.next_of_both-steps-preserved
 next_of_both-steps-preserved g t c = record {
   reads = reads_on _ _ _ _ (reads_on _ _ _ _ (reads_on _ _ _ _ (reads_on _ _ _ _ c.steps.invariant.reads c.in_ok-here.ensures.reads) c.in_ok-stops_at.ensures.reads) c.in_ok-there.ensures.reads) c.in_ok-stops_at-2.ensures.reads;
+  spares =
+      let here = reads_on _ _ _ _ c.steps.invariant.reads c.in_ok-here.ensures.reads in
+      let tested = reads_on _ _ _ _ here c.in_ok-stops_at.ensures.reads in
+      let there = reads_on _ _ _ _ tested c.in_ok-there.ensures.reads in
+      spares_on _ _ _ _ there (spares_on _ _ _ _ tested (spares_on _ _ _ _ here (spares_on _ _ _ _ c.steps.invariant.reads c.steps.invariant.spares c.in_ok-here.ensures.spares) c.in_ok-stops_at.ensures.spares) c.in_ok-there.ensures.spares) c.in_ok-stops_at-2.ensures.spares;
   nowhere = λ m told.
       let has = has_place m c.args.stem.now in
       let before = c.steps.invariant.reads.content ∙ told in
@@ -106,7 +113,8 @@ next_without-returns-then-not-branch-clause-next g t c = λ m told.
 
 pub next_without-steps-init : goal.next_without-steps-init
 next_without-steps-init g t c = record {
-  reads = reads_none _ c.requires;
+  reads = reads_none _ c.requires.ready;
+  spares = spares_none _ _;
   nowhere = λ m told.
       subst (λ p. HoldsNowhere (stops_at (has_place m c.args.stem.now) (Without (route_of c.args.a.now) (route_of c.args.b.now))) c.args.after.now p) (sym c.in_ok-last.ensures)
       (nowhere_yet _ c.args.after.now);
@@ -115,6 +123,9 @@ next_without-steps-init g t c = record {
 pub next_without-steps-preserved : goal.next_without-steps-preserved
 next_without-steps-preserved g t c = record {
   reads = reads_on _ _ _ _ (reads_on _ _ _ _ c.steps.invariant.reads c.in_ok-here.ensures.reads) c.in_ok-stops_at.ensures.reads;
+  spares =
+      let here = reads_on _ _ _ _ c.steps.invariant.reads c.in_ok-here.ensures.reads in
+      spares_on _ _ _ _ here (spares_on _ _ _ _ c.steps.invariant.reads c.steps.invariant.spares c.in_ok-here.ensures.spares) c.in_ok-stops_at.ensures.spares;
   nowhere = λ m told.
       let has = has_place m c.args.stem.now in
       let before = c.steps.invariant.reads.content ∙ told in
