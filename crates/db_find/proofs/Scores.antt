@@ -6,11 +6,11 @@ use Rattle.std.specs.FinMap.{entries}
 use Rattle.std.proofs.lemmas.Map.Entries.{option_filter}
 use Rattle.tb_table.specs.Tables.{Table}
 use Rattle.ix_docmap.specs.Marks.{Mark, Pending, Settled}
-use Rattle.ix_context.specs.Indexes.{texts_in}
+use Rattle.ix_context.specs.Indexes.{ContextIndex, texts_in}
 use Rattle.ix_search.specs.Finding.{query_score, scored_above, scored, found_at, found}
 use Rattle.q_tree.specs.ReducedQueries.{Reduced}
 use Rattle.tx_settings.specs.declared.preferences.Prefs.{Prefs}
-use Rattle.ix_indexes.specs.Indexes.{Index}
+use Rattle.ix_kinds.specs.Indextypes.{IndexOf}
 
 none_above : (n score : ℕ) → nat_lt 0 score ≡ false → nat_lt n score ≡ false
 none_above n score h = let l = ltb-false 0 score h in not_below (nat_lt n score) refl l
@@ -30,7 +30,7 @@ scored_of_all : (p : Prefs) (q : Reduced) (n : ℕ) (r : ℤ) (text : Option (Li
 scored_of_all p q n r None = refl
 scored_of_all p q n r (Some text) = above_of_all n r (query_score p q text)
 
-at_of_all : (t : Table) (x : Index) (q : Reduced) (n : ℕ) (r : ℤ) (m : Mark (Unit {0})) → option_filter (λ (h : ℤ × ℕ). nat_lt n h.1) (found_at t x q 0 r m) ≡ found_at t x q n r m
+at_of_all : (t : Table) (x : IndexOf ContextIndex) (q : Reduced) (n : ℕ) (r : ℤ) (m : Mark (Unit {0})) → option_filter (λ (h : ℤ × ℕ). nat_lt n h.1) (found_at t x q 0 r m) ≡ found_at t x q n r m
 at_of_all t x q n r Pending = refl
 at_of_all t x q n r (Settled _) = scored_of_all x.prefs q n r (texts_in t x.column r)
 
@@ -47,5 +47,5 @@ filter_given : {X Y : Type 0} (p : Y → Bool) (f g : X → Option Y) → ((x : 
 filter_given p f g same [] = refl
 filter_given p f g same (x ∷ xs) = filter_cons p (f x) (g x) (filter_map f xs) (filter_map g xs) (same x) (filter_given p f g same xs)
 
-pub above_filtered : (t : Table) (x : Index) (q : Reduced) (n : ℕ) → filter (λ (h : ℤ × ℕ). nat_lt n h.1) (found t x q 0) ≡ found t x q n
+pub above_filtered : (t : Table) (x : IndexOf ContextIndex) (q : Reduced) (n : ℕ) → filter (λ (h : ℤ × ℕ). nat_lt n h.1) (found t x q 0) ≡ found t x q n
 above_filtered t x q n = filter_given (λ (h : ℤ × ℕ). nat_lt n h.1) (λ e. found_at t x q 0 e.0 e.1) (λ e. found_at t x q n e.0 e.1) (λ e. at_of_all t x q n e.0 e.1) (entries x.body.marks)

@@ -1,6 +1,7 @@
 -- What a search finds: rows by their keys, each with its score.
 use Rattle.std.specs.Prelude.{ℕ, ℤ, List, [], Option, Some, None, Result, Vec, IfOk, ◌≡◌, refl}
 use Rattle.std.specs.Option.{option_map}
+use Rattle.std.proofs.Common.{inl, inr}
 use Rattle.std.specs.declared.alloc.Global.{Global}
 use Rattle.ct_keep.specs.declared.keepers.KeepFault.{KeepFault}
 use Rattle.tb_table.specs.Tables.{Tables}
@@ -8,7 +9,9 @@ use Rattle.th_store.specs.Thesauri.{Thesauri}
 use Rattle.q_tree.specs.declared.flats.Flat.{Flat}
 use Rattle.q_tree.specs.ReducedQueries.{reduced_of}
 use Rattle.ix_kinds.specs.Rows.{table_at}
-use Rattle.ix_indexes.specs.Indexes.{Index}
+use Rattle.ix_kinds.specs.Indextypes.{IndexOf, with_body}
+use Rattle.ix_context.specs.Indexes.{ContextIndex}
+use Rattle.ix_indexes.specs.Indexes.{Body, Index}
 use Rattle.ix_search.specs.Finding.{found}
 use Rattle.ix_search.specs.declared.hits.Hit.{Hit}
 use Rattle.ix_search.specs.Hits.{hit_rows}
@@ -21,7 +24,7 @@ use Rattle.db_find.specs.Searches.{Search, Contains, threshold_of}
 -- ---- CONTAINS
 
 -- what a query finds in an index with a score above a number; nothing without a number
-abbrev pub found_by : Tables → Index → Meaning → Option ℕ → List (ℤ × ℕ)
+abbrev pub found_by : Tables → IndexOf ContextIndex → Meaning → Option ℕ → List (ℤ × ℕ)
 found_by ts x (Finds (Some q)) (Some n) = found (table_at ts x.table) x q n
 found_by ts x meaning threshold = []
 
@@ -31,9 +34,14 @@ found_by ts x meaning threshold = []
 abbrev pub search_refusal : Thesauri → Index → Search → Option Refusal
 search_refusal thesauri x (Contains column query label above) = refusal_in (meaning_of x.prefs thesauri query)
 
+-- by what the index is: an index of another kind than the one that answers it finds nothing
+abbrev pub rows_in : Tables → Thesauri → Index → Body → Search → List (ℤ × ℕ)
+rows_in ts thesauri x (inl c) (Contains column query label above) = found_by ts (with_body x c) (meaning_of x.prefs thesauri query) (threshold_of above)
+rows_in ts thesauri x (inr b) (Contains column query label above) = []
+
 -- THE ROWS THAT A SEARCH FINDS in its index, where these tables and thesauri are there: their keys with their scores, in the order of the keys
 abbrev pub search_rows : Tables → Thesauri → Index → Search → List (ℤ × ℕ)
-search_rows ts thesauri x (Contains column query label above) = found_by ts x (meaning_of x.prefs thesauri query) (threshold_of above)
+search_rows ts thesauri x s = rows_in ts thesauri x x.body s
 
 -- the same where there may be no index: no refusal, and no rows
 abbrev pub refused_by : Thesauri → Option Index → Search → Option Refusal
@@ -52,11 +60,11 @@ GivesFound refusal rows (Refused line) = (r : Refusal) × ((refusal ≡ Some r) 
 GivesFound refusal rows (Rows hits) = (refusal ≡ None) × (hit_rows hits.items ≡ rows)
 
 -- a call that didn't fail gave the rows of an index to which a query gives a score above a number
-abbrev pub FindsAbove : Tables → Index → Flat → ℕ → Result (Vec Hit Global) KeepFault → Type 0
+abbrev pub FindsAbove : Tables → IndexOf ContextIndex → Flat → ℕ → Result (Vec Hit Global) KeepFault → Type 0
 FindsAbove ts x flat above result = IfOk result (λ hits. hit_rows hits.items ≡ found (table_at ts x.table) x (reduced_of flat) above)
 
 -- a call that didn't fail gave what an index finds by what a query text means, with a score above a number
-abbrev pub FindsByMeaning : Tables → Index → Meaning → Option ℕ → Result Found KeepFault → Type 0
+abbrev pub FindsByMeaning : Tables → IndexOf ContextIndex → Meaning → Option ℕ → Result Found KeepFault → Type 0
 FindsByMeaning ts x meaning above result = IfOk result (GivesFound (refusal_in meaning) (found_by ts x meaning above))
 
 -- a call that didn't fail gave what a search finds in its index
@@ -64,9 +72,9 @@ abbrev pub FindsBySearch : Tables → Thesauri → Index → Search → Result F
 FindsBySearch ts thesauri x search result = IfOk result (GivesFound (search_refusal thesauri x search) (search_rows ts thesauri x search))
 
 -- a call that didn't fail gave what an index finds by a query with a score above a number
-abbrev pub FindsBy : Tables → Index → Option Flat → Option ℕ → Result (Vec Hit Global) KeepFault → Type 0
+abbrev pub FindsBy : Tables → IndexOf ContextIndex → Option Flat → Option ℕ → Result (Vec Hit Global) KeepFault → Type 0
 FindsBy ts x flat above result = IfOk result (λ found. hit_rows found.items ≡ found_by ts x (Finds (option_map reduced_of flat)) above)
 
 -- computed example: a query of stopwords alone finds nothing
-nothing_is_found : (ts : Tables) (x : Index) → found_by ts x (Finds None) (Some 0) ≡ []
+nothing_is_found : (ts : Tables) (x : IndexOf ContextIndex) → found_by ts x (Finds None) (Some 0) ≡ []
 nothing_is_found ts x = refl

@@ -14,7 +14,8 @@ use Rattle.ct_keep.specs.Looks.{no_looks, LooksAtMost}
 use Rattle.q_tree.specs.declared.flats.Flat.{Flat}
 use Rattle.q_tree.specs.ReducedQueries.{reduced_of}
 use Rattle.th_store.specs.Thesauri.{Thesauri}
-use Rattle.ix_indexes.specs.Indexes.{Index}
+use Rattle.db_names.specs.declared.heads.IndexKind.{IndexKind}
+use Rattle.ix_indexes.specs.Indexes.{Index, kinds, as_index}
 use Rattle.ix_search.specs.Finding.{key_query, three_rows}
 use Rattle.ix_search.specs.Looking.{foxes, query_allowance, query_looks, query_of_fox}
 use Rattle.st_parse.specs.declared.statements.Whole.{Whole}
@@ -44,10 +45,10 @@ abbrev pub looks_in : Content → Thesauri → Option (List ℕ × Index) → Se
 looks_in c thesauri None s = no_looks
 looks_in c thesauri (Some named) s = search_looks c thesauri named.0 named.1 s
 
--- A call looked at no more than this, of the index of this name.
-abbrev pub LooksInIndex : {K : Type 0} → (K → KeeperView) → K → K → List ℕ → (Content → StoreState → Index → Counts) → Type 0
-LooksInIndex view old new i most =
-    (m : StoreState) (c : Content) (x : Index) → (view old).content ≡ Some c → StandsForState c m → get m.indexes i ≡ Some x → LooksAtMost view old new (most c m x)
+-- A call looked at no more than this, of the index of this name, where that is of this kind.
+abbrev pub LooksInIndex : {K : Type 0} → (K → KeeperView) → K → K → List ℕ → IndexKind → (Content → StoreState → Index → Counts) → Type 0
+LooksInIndex view old new i kind most =
+    (m : StoreState) (c : Content) (x : Index) → (view old).content ≡ Some c → StandsForState c m → get m.indexes i ≡ Some x → kinds.kind x.body ≡ kind → LooksAtMost view old new (most c m x)
 
 -- ---- by rows
 
@@ -71,9 +72,9 @@ of_no_query : (c : Content) → meaning_looks c (codes "di") (Finds None) (Some 
 of_no_query c = refl
 
 -- the query text `fox` means the key `fox`, which has three rows in the second content
-rows_of_a_word : (c : Content) (thesauri : Thesauri) → search_allowance c thesauri (codes "di") three_rows (Contains (codes "body") (codes "fox") None (Fits (pos 0))) ≡ query_allowance c (codes "di") (key_query (codes "fox"))
+rows_of_a_word : (c : Content) (thesauri : Thesauri) → search_allowance c thesauri (codes "di") (as_index three_rows) (Contains (codes "body") (codes "fox") None (Fits (pos 0))) ≡ query_allowance c (codes "di") (key_query (codes "fox"))
 unfolding encode chars caseless ucd_category key_text
 rows_of_a_word c thesauri = refl
 
-pub four_rows_of_fox : (thesauri : Thesauri) → search_allowance foxes thesauri (codes "di") three_rows (Contains (codes "body") (codes "fox") None (Fits (pos 0))) ≡ 4
+pub four_rows_of_fox : (thesauri : Thesauri) → search_allowance foxes thesauri (codes "di") (as_index three_rows) (Contains (codes "body") (codes "fox") None (Fits (pos 0))) ≡ 4
 four_rows_of_fox thesauri = rows_of_a_word foxes thesauri ∙ query_of_fox

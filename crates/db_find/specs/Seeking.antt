@@ -1,6 +1,7 @@
 -- The index that a search needs.
 use Rattle.std.specs.Prelude.{ℕ, ◌≡◌, List, [], ◌∷◌, Option, Some, None, codes, refl}
 use Rattle.std.specs.Option.{option_and_then}
+use Rattle.std.proofs.Common.{inl}
 use Rattle.std.specs.Bool.{if◌then◌else◌}
 use Rattle.std.specs.FinMap.{get, entries}
 use Rattle.ct_entry.specs.Maps.{Names, Rows}
@@ -43,7 +44,7 @@ no_columns m s = refl
 
 -- of two indexes on columns of `docs`, whatever their marks, the second with its name
 abbrev at_column : ℕ → Rows (Mark (Unit {0})) → Index
-at_column column marks = record { table = codes "docs"; column = column; prefs = default_prefs; body = record { part = no_part; marks = marks } }
+at_column column marks = record { table = codes "docs"; column = column; prefs = default_prefs; body = inl (record { part = no_part; marks = marks }) }
 
 with_its_name : (ms : Rows (Mark (Unit {0}))) → named_index_among Context (codes "docs") 2 ((codes "di", at_column 1 ms) ∷ (codes "dj", at_column 2 ms) ∷ []) ≡ Some (codes "dj", at_column 2 ms)
 with_its_name ms = refl

@@ -1,17 +1,22 @@
 //! What a search finds in its index.
 #![tactic(auto, using(ct_keep::specs::laws::Composing::reads_on, ct_keep::specs::laws::Composing::reads_short))]
 
-ghost use Rattle.std.specs.Prelude.{◌≡◌, nat_lt, filter};
+ghost use Rattle.std.specs.Prelude.{◌≡◌, Some, nat_lt, filter};
 ghost use Rattle.ct_keep.specs.KeeperViews.{OnlyReads, Told};
 ghost use Rattle.ct_keep.specs.Looks.{LooksAtMost};
 ghost use Rattle.q_tree.specs.ReducedQueries.{reduced_of};
 ghost use Rattle.ix_search.specs.Looking.{query_looks};
-ghost use Rattle.db_state.specs.States.{OverIndex};
+ghost use Rattle.std.specs.FinMap.{get};
+ghost use Rattle.ct_keep.specs.Content.{Content};
+ghost use Rattle.ix_kinds.specs.Indextypes.{IndexOf};
+ghost use Rattle.ix_context.specs.Indexes.{ContextIndex};
+ghost use Rattle.ix_indexes.specs.Indexes.{as_index, kinds};
+ghost use Rattle.db_state.specs.States.{OverContext, OverIndex, StandsForState, StoreState};
 ghost use Rattle.db_find.specs.Finding.{FindsAbove, FindsBy, FindsByMeaning, FindsBySearch};
 ghost use Rattle.db_find.specs.Looking.{LooksInIndex, flat_looks, search_looks, text_looks};
 ghost use Rattle.db_find.specs.Meanings.{CanSearch, CanSearchIt};
 ghost use Rattle.db_find.specs.Querying.{meaning_of};
-ghost use Rattle.db_find.specs.Searches.{held_search, threshold_of as threshold_in};
+ghost use Rattle.db_find.specs.Searches.{held_search, search_kind, threshold_of as threshold_in};
 
 use crate::querying::{Meaning, meaning_in};
 use crate::searches::{Search, threshold_of};
@@ -48,7 +53,7 @@ fn hits_above<K: Keeper>(
 ) -> Result<Vec<Hit>, KeepFault>
     requires ready { (K.view keeper.old).ready }
     requires searchable { CanSearch flat.now }
-    ensures found { OverIndex K.view keeper.old index.now (λ m x. FindsAbove m.tables x flat.now above result) }
+    ensures found { OverContext K.view keeper.old index.now (λ m x. FindsAbove m.tables x flat.now above result) }
     ensures reads { OnlyReads K.view keeper.old keeper.new result }
     ensures at_most { Told K.view keeper.old (λ m. LooksAtMost K.view keeper.old keeper.new (query_looks m index.now (reduced_of flat.now))) }
 {
@@ -67,7 +72,7 @@ fn found_hits<K: Keeper>(
 ) -> Result<Vec<Hit>, KeepFault>
     requires ready { (K.view keeper.old).ready }
     requires searchable { CanSearchIt flat.now }
-    ensures found { OverIndex K.view keeper.old index.now (λ m x. FindsBy m.tables x flat.now above result) }
+    ensures found { OverContext K.view keeper.old index.now (λ m x. FindsBy m.tables x flat.now above result) }
     ensures reads { OnlyReads K.view keeper.old keeper.new result }
     ensures at_most { Told K.view keeper.old (λ m. LooksAtMost K.view keeper.old keeper.new (flat_looks m index.now flat.now above)) }
 {
@@ -89,9 +94,9 @@ fn contained<K: Keeper>(
     above: Whole,
 ) -> Result<Found, KeepFault>
     requires { (K.view keeper.old).ready }
-    ensures found { OverIndex K.view keeper.old index.now (λ m x. FindsByMeaning m.tables x (meaning_of x.prefs m.thesauri query.now) (threshold_in above) result) }
+    ensures found { OverContext K.view keeper.old index.now (λ m x. FindsByMeaning m.tables x (meaning_of x.prefs m.thesauri query.now) (threshold_in above) result) }
     ensures reads { OnlyReads K.view keeper.old keeper.new result }
-    ensures at_most { LooksInIndex K.view keeper.old keeper.new index.now (λ c m x. text_looks c m.thesauri index.now x query.now above) }
+    ensures at_most { (m : StoreState) (c : Content) (x : IndexOf ContextIndex) → (K.view keeper.old).content ≡ Some c → StandsForState c m → get m.indexes index.now ≡ Some (as_index x) → LooksAtMost K.view keeper.old keeper.new (text_looks c m.thesauri index.now (as_index x) query.now above) }
 {
     let meaning = meaning_in(alloc, keeper, index, query)?;
     match meaning {
@@ -115,9 +120,9 @@ pub fn find<K: Keeper>(
     search: Search<'_>,
 ) -> Result<Found, KeepFault>
     requires { (K.view keeper.old).ready }
-    ensures found { OverIndex K.view keeper.old index.now (λ m x. FindsBySearch m.tables m.thesauri x (held_search search.entry) result) }
+    ensures found { OverIndex K.view keeper.old index.now (λ m x. kinds.kind x.body ≡ search_kind (held_search search.entry) → FindsBySearch m.tables m.thesauri x (held_search search.entry) result) }
     ensures reads { OnlyReads K.view keeper.old keeper.new result }
-    ensures at_most { LooksInIndex K.view keeper.old keeper.new index.now (λ c m x. search_looks c m.thesauri index.now x (held_search search.entry)) }
+    ensures at_most { LooksInIndex K.view keeper.old keeper.new index.now (search_kind (held_search search.entry)) (λ c m x. search_looks c m.thesauri index.now x (held_search search.entry)) }
 {
     match search {
         Search::Contains { .. } => contained(alloc, keeper, index, search.query(), search.above()),

@@ -8,7 +8,7 @@ ghost use Rattle.q_tree.specs.Limits.{keeps_limits};
 ghost use Rattle.q_tree.specs.Trees.{tree_of};
 ghost use Rattle.q_reduce.specs.Results.{named_pairs};
 ghost use Rattle.db_cond.specs.Refused.{refusal_of};
-ghost use Rattle.db_state.specs.States.{OverIndex, Sees};
+ghost use Rattle.db_state.specs.States.{OverContext, Sees};
 ghost use Rattle.db_find.specs.Meanings.{Means, MeansFault, IsSearchable};
 ghost use Rattle.db_find.specs.Querying.{meaning_by, meaning_of as text_meaning, meaning_of_tree, Refuses};
 ghost use Rattle.db_find.specs.Thesauri.{CountsNothing};
@@ -124,7 +124,7 @@ fn meaning_of<K: Keeper>(
     }
 }
 
-/// What a query text means to an index. Where there is no such index it finds nothing.
+/// What a query text means to a CONTEXT index. Where there is no such index it finds nothing.
 ///
 /// It reads no text and no posting. Its cost is that of the index's entry, of which it reads all preferences, and of loading the thesauri
 /// that the query names.
@@ -135,10 +135,10 @@ pub(crate) fn meaning_in<K: Keeper>(
     text: &str,
 ) -> Result<Meaning, KeepFault>
     requires { (K.view keeper.old).ready }
-    ensures meaning { OverIndex K.view keeper.old index.now (λ m x. IfOk result (λ meaning. Means meaning (text_meaning x.prefs m.thesauri text.now))) }
+    ensures meaning { OverContext K.view keeper.old index.now (λ m x. IfOk result (λ meaning. Means meaning (text_meaning x.prefs m.thesauri text.now))) }
     ensures searchable { IfOk result (λ meaning. IsSearchable meaning) }
     ensures reads { OnlyReads K.view keeper.old keeper.new result }
-    ensures at_most { OverIndex K.view keeper.old index.now (λ m x. LooksAtMost K.view keeper.old keeper.new no_looks) }
+    ensures at_most { OverContext K.view keeper.old index.now (λ m x. LooksAtMost K.view keeper.old keeper.new no_looks) }
 {
     let prefs = prefs_of(alloc, keeper, index)?;
     match prefs {

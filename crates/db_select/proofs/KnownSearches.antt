@@ -3,7 +3,7 @@ use Rattle.std.proofs.Common.{◌≡◌, ◌≤◌, Bool, List, ℕ, length, Opt
 use Rattle.std.specs.Prelude.{not, ◌||◌}
 use Rattle.std.specs.FinMap.{get}
 use Rattle.std.specs.declared.alloc.Global.{Global}
-use Rattle.ix_indexes.specs.Indexes.{AreIndexes, Index}
+use Rattle.ix_indexes.specs.Indexes.{AreIndexes, Index, kinds}
 use Rattle.ix_search.specs.Hits.{hit_rows}
 use Rattle.st_parse.specs.declared.statements.Cond.{Cond}
 use Rattle.st_parse.specs.declared.statements.SelectList.{SelectList}
@@ -16,9 +16,9 @@ use Rattle.db_state.specs.Effects.{Does, Effect, refuse_by}
 use Rattle.db_state.specs.States.{StoreState}
 use Rattle.db_rows.specs.Checking.{fit_columns, has_beyond}
 use Rattle.db_find.specs.Finding.{search_refusal}
-use Rattle.db_find.specs.Searches.{Search}
+use Rattle.db_find.specs.Searches.{Search, search_kind}
 use Rattle.db_find.specs.Seeking.{NeedsIndex, index_of_search, named_index}
-use Rattle.db_find.specs.laws.Seeking.{needed_named}
+use Rattle.db_find.specs.laws.Seeking.{needed_kind, needed_named}
 use Rattle.db_select.specs.declared.finds.FoundRow.{FoundRow}
 use Rattle.db_select.specs.declared.finds.Selected.TheVariants.{Refused as RefusedFound, Rows}
 use Rattle.db_select.specs.Checking.{check_parts, fit_labels, is_out_of_range}
@@ -33,6 +33,7 @@ pub record IsKnownSearch (m : StoreState) (t : List ℕ) (x : Table) (list : Sel
   pub index : Index
   pub there : get m.indexes i ≡ Some index
   pub here : index_of_search m t x.columns s ≡ Some index
+  pub kind : kinds.kind index.body ≡ search_kind s
   pub named : named_index m t x.columns s ≡ Some (i, index)
   pub effect : select_rows m t x list (Some s) conds ≡ refuse_by (search_refusal m.thesauri index s) (λ refusal. refusal) (Does m (rows_reply m.tables t x.columns list (hits m t x (Some s) conds)))
 
@@ -49,6 +50,7 @@ module _ (m : StoreState) (t : List ℕ) (x : Table) (list : SelectList) (s : Se
         index = needed.0;
         there = needed.1.0;
         here = here;
+        kind = needed_kind m t columns s i needed;
         named = ap (λ (cs : List Column). named_index m t cs s) same ∙ needed_named m t columns s i indexes needed;
         effect =
             by_query m t x list (Some s) conds columns same w o (wrong ∙ ap (λ (l : Option Whole). not (fit_labels list l) || not (fit_columns columns conds)) label_is) out (has_needed m t x s needed.0 here) passes

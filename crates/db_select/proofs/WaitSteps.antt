@@ -1,5 +1,5 @@
 -- The rows that wait, of each index in turn.
-use Rattle.std.proofs.Common.{◌≡◌, ◌+◌, ℕ, ℤ, pos, List, [], ◌∷◌, ◌++◌, length, map, Option, Some, None, refl, sym, ap, ◌∙◌}
+use Rattle.std.proofs.Common.{◌≡◌, ◌+◌, ℕ, ℤ, pos, List, [], ◌∷◌, ◌++◌, length, map, Option, Some, None, refl, sym, ap, ◌∙◌, inl, inr}
 use Rattle.std.specs.List.{flat_map, AllByRecursion}
 use Rattle.std.specs.Option.{option_and_then}
 use Rattle.std.specs.Ordering.{nat_cmp, int_cmp}
@@ -22,7 +22,8 @@ use Rattle.ct_entry.specs.laws.Rows.{rows_listed}
 use Rattle.ix_docmap.specs.Marks.{Mark, queued}
 use Rattle.ix_context.specs.Indexes.{in_queue}
 use Rattle.ix_context.specs.laws.Reading.{pending_read}
-use Rattle.ix_indexes.specs.Indexes.{Index, mark_of, pending_rows}
+use Rattle.ix_kinds.specs.Indextypes.{with_body}
+use Rattle.ix_indexes.specs.Indexes.{Body, Index, mark_at, mark_of, pending_rows}
 use Rattle.ix_indexes.specs.laws.Indexes.{context_at}
 use Rattle.db_cond.specs.Lines.{line}
 use Rattle.db_state.specs.States.{StoreState, StandsForState}
@@ -40,15 +41,23 @@ none_in_empty = none (entries (empty {K = ℤ} {X = Mark (Unit {0})} {R = int_cm
     none [] e = refl
     none (x ∷ es) e = cc
 
+-- a name without marks has no queue
+none_read : (m : StoreState) (c : Content) → StandsForState c m → (i : List ℕ) → ((r : ℤ) → mark_at m.indexes i r ≡ None) → rows_under kind.Pending i c ≡ []
+none_read m c stands i none =
+    rows_listed in_queue c kind.Pending i empty stands.only (λ q p. p) (λ r v e. let wrong : None ≡ Some v = sym (get-empty int_cmp r) ∙ e in cc)
+    (λ r row. (context_at (at c) m.tables i (get m.indexes i) (stands.indexes i)).documents.queue r row ∙ ap queued (none r) ∙ sym (ap (option_and_then in_queue) (get-empty int_cmp r)))
+    ∙ ap (keys_where in_queue) none_in_empty
+
 pub waiting_read : (m : StoreState) (c : Content) → StandsForState c m → (i : List ℕ) → rows_under kind.Pending i c ≡ waiting_at m.indexes i
 waiting_read m c stands i = go (get m.indexes i) refl
   where
+    of_kind : (x : Index) (b : Body) → get m.indexes i ≡ Some (with_body x b) → rows_under kind.Pending i c ≡ pending_rows (with_body x b)
+    of_kind x (inl b) is = pending_read c m.tables i (with_body x b) (holds_index c m stands i (with_body x b) is)
+    of_kind x (inr b) is = none_read m c stands i (λ r. ap (λ (o : Option Index). mark_of o r) is)
+
     go : (o : Option Index) → get m.indexes i ≡ o → rows_under kind.Pending i c ≡ waiting_in o
-    go None is =
-        rows_listed in_queue c kind.Pending i empty stands.only (λ q p. p) (λ r v e. let wrong : None ≡ Some v = sym (get-empty int_cmp r) ∙ e in cc)
-        (λ r row. (context_at (at c) m.tables i (get m.indexes i) (stands.indexes i)).documents.queue r row ∙ ap (λ (o : Option Index). queued (mark_of o r)) is ∙ sym (ap (option_and_then in_queue) (get-empty int_cmp r)))
-        ∙ ap (keys_where in_queue) none_in_empty
-    go (Some x) is = pending_read c m.tables i x (holds_index c m stands i x is)
+    go None is = none_read m c stands i (λ r. ap (λ (o : Option Index). mark_of o r) is)
+    go (Some x) is = of_kind x x.body is
 
 -- ---- of some indexes, and of all
 

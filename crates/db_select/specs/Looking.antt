@@ -29,7 +29,7 @@ use Rattle.db_state.specs.Effects.{Effect, Does, Refused}
 use Rattle.db_rows.specs.Checking.{cond_columns}
 use Rattle.db_rows.specs.Sources.{of_columns}
 use Rattle.db_rows.specs.Texts.{RisesLeaving, is_named, left_by, passing_text_places}
-use Rattle.ix_indexes.specs.Indexes.{Index}
+use Rattle.ix_indexes.specs.Indexes.{Index, as_index}
 use Rattle.ix_search.specs.Finding.{three_rows}
 use Rattle.ix_search.specs.Looking.{foxes}
 use Rattle.db_find.specs.Looking.{allowance_in, four_rows_of_fox, looks_in}
@@ -179,6 +179,6 @@ two_texts : (c : Content) (m : StoreState) (x : Table) → x.columns ≡ docs_co
 two_texts c m x columns found = λ i. Some (length (found i) * length (read_texts Star [] (columns i)))
 
 -- the index `di`, in a content that has three rows of `fox`: one row more for each of the two searches
-five_rows : (m : StoreState) (x : Table) → named_index m (codes "docs") x.columns a_fox ≡ Some (codes "di", three_rows)
+five_rows : (m : StoreState) (x : Table) → named_index m (codes "docs") x.columns a_fox ≡ Some (codes "di", as_index three_rows)
     → (found_allowance foxes m (codes "docs") x Star a_fox []).rows ≡ Some 5
 five_rows m x index = ap (λ (o : Option (List ℕ × Index)). Some (1 + allowance_in foxes m.thesauri o a_fox)) index ∙ ap (λ (n : ℕ). Some (1 + n)) (four_rows_of_fox m.thesauri)

@@ -23,7 +23,7 @@ use Rattle.db_state.specs.States.{StoreState}
 use Rattle.db_state.specs.Effects.{Effect, Does, Refused, refuse}
 use Rattle.db_state.specs.Lines.{lines_or_none}
 use Rattle.db_select.specs.Predicates.{below_seven}
-use Rattle.std.proofs.Common.{ap, ◌∙◌}
+use Rattle.std.proofs.Common.{inl, ap, ◌∙◌}
 
 -- the line of a row that waits in the index of this name
 abbrev pub pending_line : List ℕ → ℤ → List Value
@@ -63,7 +63,7 @@ abbrev three_marks : List (ℤ × Mark (Unit {0}))
 three_marks = (pos 1, Settled tt) ∷ (pos 2, Settled tt) ∷ (pos 3, Pending) ∷ []
 
 abbrev one_waits : Index
-one_waits = record { table = codes "docs"; column = 1; prefs = default_prefs; body = record { part = no_part; marks = from_sorted three_marks } }
+one_waits = record { table = codes "docs"; column = 1; prefs = default_prefs; body = inl (record { part = no_part; marks = from_sorted three_marks }) }
 
 its_row : pending_rows one_waits ≡ pos 3 ∷ []
 its_row = ap (λ (es : List (ℤ × Mark (Unit {0}))). keys_where in_queue es) (entries-from_sorted int_cmp three_marks tt)

@@ -8,6 +8,8 @@ use Rattle.ct_entry.specs.KeyParts.{SpellsKey}
 use Rattle.ct_entry.specs.laws.Keys.{key_from_bytes}
 use Rattle.tb_table.specs.Shapes.{HasTableValue, IsTableShape}
 use Rattle.ix_context.specs.Shapes.{HasContextValue, IsContextShape}
+use Rattle.cat_index.specs.Shapes.{HasCatalogueValue, IsCatalogueShape}
+use Rattle.ix_indexes.specs.Shapes.{HasIndexValue, IsIndexShape}
 use Rattle.tx_prefs.specs.Shapes.{HasPrefValue, IsPrefShape}
 use Rattle.th_store.specs.Shapes.{HasThesaurusValue, IsThesaurusShape}
 use Rattle.db_state.specs.Shapes.{IsStoreEntry}
@@ -21,8 +23,9 @@ module _ (spelling value owner part : List ℕ) (kind : Kind) (parts : IsName ow
   pub of_table : IsTableShape kind part value → IsStoreEntry spelling value
   of_table shape = record { key = key kind owner part; spelt = parts.1; parts = record { owner = parts.0; part = shape.rest }; has = inl shape.has }
 
-  pub of_index : IsContextShape kind part value → IsStoreEntry spelling value
-  of_index shape = record { key = key kind owner part; spelt = parts.1; parts = record { owner = parts.0; part = shape.0 }; has = inr (inl shape.1) }
+  pub of_index : IsIndexShape kind part value → IsStoreEntry spelling value
+  of_index (inl shape) = record { key = key kind owner part; spelt = parts.1; parts = record { owner = parts.0; part = shape.0 }; has = inr (inl (inl shape.1)) }
+  of_index (inr shape) = record { key = key kind owner part; spelt = parts.1; parts = record { owner = parts.0; part = shape.0 }; has = inr (inl (inr shape.1)) }
 
   pub of_preference : IsPrefShape kind part value → IsStoreEntry spelling value
   of_preference shape = record { key = key kind owner part; spelt = parts.1; parts = record { owner = parts.0; part = shape.rest }; has = inr (inr (inl shape.has)) }
@@ -34,20 +37,20 @@ module _ (spelling value owner part : List ℕ) (kind : Kind) (parts : IsName ow
   same_key entry = key_from_bytes entry.key (key kind owner part) (sym entry.spelt ∙ parts.1)
 
   -- it is one of the four
-  pub either : IsStoreEntry spelling value → IsTableShape kind part value ⊎ (IsContextShape kind part value ⊎ (IsPrefShape kind part value ⊎ IsThesaurusShape kind part value))
+  pub either : IsStoreEntry spelling value → IsTableShape kind part value ⊎ (IsIndexShape kind part value ⊎ (IsPrefShape kind part value ⊎ IsThesaurusShape kind part value))
   either entry =
       let rest = subst (λ (k : Key). IsPart k.kind k.part) (same_key entry) entry.parts.part in
       ⊎_elim
       (λ has. inl (record { rest = rest; has = subst (λ (k : Key). HasTableValue k value) (same_key entry) has }))
       (λ others. ⊎_elim
-      (λ has. inr (inl (rest, subst (λ (k : Key). HasContextValue k value) (same_key entry) has)))
+      (λ has. inr (inl (⊎_elim (λ h. inl (rest, subst (λ (k : Key). HasContextValue k value) (same_key entry) h)) (λ h. inr (rest, subst (λ (k : Key). HasCatalogueValue k value) (same_key entry) h)) has)))
       (λ more. ⊎_elim
       (λ has. inr (inr (inl (record { rest = rest; has = subst (λ (k : Key). HasPrefValue k value) (same_key entry) has }))))
       (λ has. inr (inr (inr (record { rest = rest; has = subst (λ (k : Key). HasThesaurusValue k value) (same_key entry) has })))) more) others)
       entry.has
 
   -- the last where it is none of the others
-  pub thesaurus_alone : (IsTableShape kind part value → ⊥) → (IsContextShape kind part value → ⊥) → (IsPrefShape kind part value → ⊥) → IsStoreEntry spelling value → IsThesaurusShape kind part value
+  pub thesaurus_alone : (IsTableShape kind part value → ⊥) → (IsIndexShape kind part value → ⊥) → (IsPrefShape kind part value → ⊥) → IsStoreEntry spelling value → IsThesaurusShape kind part value
   thesaurus_alone no_table no_index no_preference entry =
       ⊎_elim (λ shape. absurd (no_table shape)) (λ others. ⊎_elim (λ shape. absurd (no_index shape)) (λ more. ⊎_elim (λ shape. absurd (no_preference shape)) (λ shape. shape) more) others) (either entry)
 

@@ -7,11 +7,14 @@ use Rattle.ct_keep.specs.Content.{Content, IsEntry, value_limit}
 use Rattle.ct_keep.specs.Changes.{IsWell}
 use Rattle.ct_entry.specs.declared.kinds.Kind.{Kind}
 use Rattle.ct_entry.specs.declared.kinds.Kind.TheVariants as kind
-use Rattle.ct_entry.specs.Keys.{Key, key, at, IsPart, posting_part, IsToken, IsDocument}
+use Rattle.ct_entry.specs.Keys.{Key, key, bytes, at, IsPart, IsKeyOfKind, posting_part, IsToken, IsDocument}
+use Rattle.cat_index.specs.Shapes.{IsWordPart}
+use Rattle.cat_index.specs.laws.Shapes.{word_entry}
 use Rattle.ct_entry.specs.laws.Parts.{has_short_keys}
 use Rattle.ct_entry.specs.laws.Well.{entry_of_key}
 use Rattle.tb_table.specs.Shapes.{HasTableValue}
 use Rattle.ix_context.specs.Shapes.{HasContextValue}
+use Rattle.ix_indexes.specs.Shapes.{HasIndexValue}
 use Rattle.tx_prefs.specs.Shapes.{HasPrefValue}
 use Rattle.tx_prefs.specs.laws.Values.{lexer_value, stoplist_value, group_value, set_value}
 use Rattle.th_graph.specs.declared.pairs.TermPair.{TermPair}
@@ -24,30 +27,43 @@ use Rattle.db_state.specs.States.{StoreState, StandsForState, is_built}
 use Rattle.db_state.specs.Shapes.{HasStoreValue, IsStoreEntry}
 use Rattle.db_state.specs.Promises.{StoresAreWell}
 use Rattle.db_state.proofs.StoreTables.{table_value, numbers_value, text_value}
-use Rattle.db_state.proofs.StoreIndexes.{index_value, document_row_value, row_document_value, pending_value, posting_value, span_value}
+use Rattle.db_state.proofs.StoreIndexes.{index_value, document_row_value, row_document_value, pending_value, posting_value, span_value, filed_value}
 use Rattle.ct_base.specs.Limits.{stream_limit}
 use Rattle.ct_base.specs.Names.{IsName}
 use Rattle.ct_entry.specs.Keys.{span_part}
 use Rattle.ix_rows.specs.WordRows.{word_term}
 
--- a short key with a value of its kind that isn't too long
+-- a key with a value of its kind, both within the bounds of entries
 record IsStored (k : Key) (v : List ℕ) : Type 0 where
   has : HasStoreValue k v
-  bounded : length v ≤ value_limit
-  short : has_short_keys k.kind ≡ true
+  within : IsKeyOfKind k → IsEntry (bytes k) v
+
+-- of a kind whose keys are short, with a value that isn't too long
+short_entry : (k : Key) (v : List ℕ) → has_short_keys k.kind ≡ true → length v ≤ value_limit → IsKeyOfKind k → IsEntry (bytes k) v
+short_entry k v short bounded is = entry_of_key k v is short bounded
 
 of_table : (k : Key) (v : List ℕ) → has_short_keys k.kind ≡ true → HasTableValue k v × (length v ≤ value_limit) → IsStored k v
-of_table k v short is = record { has = inl is.0; bounded = is.1; short = short }
+of_table k v short is = record { has = inl is.0; within = short_entry k v short is.1 }
 
-of_index : (k : Key) (v : List ℕ) → has_short_keys k.kind ≡ true → HasContextValue k v × (length v ≤ value_limit) → IsStored k v
-of_index k v short is = record { has = inr (inl is.0); bounded = is.1; short = short }
+of_index : (k : Key) (v : List ℕ) → has_short_keys k.kind ≡ true → HasIndexValue k v × (length v ≤ value_limit) → IsStored k v
+of_index k v short is = record { has = inr (inl is.0); within = short_entry k v short is.1 }
+
+of_context : (k : Key) (v : List ℕ) → has_short_keys k.kind ≡ true → HasContextValue k v × (length v ≤ value_limit) → IsStored k v
+of_context k v short is = of_index k v short (inl is.0, is.1)
 
 of_preference : (k : Key) (v : List ℕ) → has_short_keys k.kind ≡ true → HasPrefValue k v × (length v ≤ value_limit) → IsStored k v
-of_preference k v short is = record { has = inr (inr (inl is.0)); bounded = is.1; short = short }
+of_preference k v short is = record { has = inr (inr (inl is.0)); within = short_entry k v short is.1 }
 
 -- an entry of thesauri has no value
 of_thesaurus : (k : Key) (v : List ℕ) → has_short_keys k.kind ≡ true → v ≡ [] → HasThesaurusValue k v → IsStored k v
-of_thesaurus k v short none has = record { has = inr (inr (inr has)); bounded = (let l = ap length none in omega (arith, l)); short = short }
+of_thesaurus k v short none has = record { has = inr (inr (inr has)); within = short_entry k v short (let l = ap length none in omega (arith, l)) }
+
+-- the entry of a row in a catalogue
+of_catalogue : (i part v : List ℕ) → IsWordPart part × (v ≡ []) → IsStored (key kind.Catalogue i part) v
+of_catalogue i part v is = record {
+  has = inr (inl (inr is));
+  within = λ key_is. subst (λ (e : List ℕ × List ℕ). IsEntry (bytes (key kind.Catalogue i e.0)) e.1) (λ j. (sym is.0.spelt j, sym is.1 j)) (word_entry i is.0.sub is.0.word is.0.values is.0.row key_is.owner is.0.token is.0.are);
+}
 
 module _ (c : Content) (m : StoreState) (stands : StandsForState c m) where
   -- a kind that has no entries
@@ -56,14 +72,14 @@ module _ (c : Content) (m : StoreState) (stands : StandsForState c m) where
 
   posting : (i token v : List ℕ) (stream d : ℕ) → stream ≤ stream_limit → IsToken token → IsDocument d → at c (key kind.Postings i (posting_part stream token d)) ≡ Some v → IsStored (key kind.Postings i (posting_part stream token d)) v
   posting i token v stream d few is_token document has =
-      of_index _ v refl (
+      of_context _ v refl (
         (d, record { stream = stream; token = token; streams = few; is = is_token; spelt = refl }, posting_value (at c) m.tables m.indexes stands.state.tables stands.state.indexes stands.indexes i v (word_term stream token) d (stream, (token, few, is_token, refl)) document has),
         stands.short_rows (key kind.Postings i (posting_part stream token d)) v refl has,
       )
 
   spans : (i section v : List ℕ) (d : ℕ) → IsName section → IsDocument d → at c (key kind.Spans i (span_part section d)) ≡ Some v → IsStored (key kind.Spans i (span_part section d)) v
   spans i section v d name document has =
-      of_index _ v refl (
+      of_context _ v refl (
         (d, record { section = section; named = name; spelt = refl }, span_value (at c) m.tables m.indexes stands.state.tables stands.state.indexes stands.indexes i v (length section ∷ section) d (section, name, refl) document has),
         stands.short_rows (key kind.Spans i (span_part section d)) v refl has,
       )
@@ -94,12 +110,12 @@ module _ (c : Content) (m : StoreState) (stands : StandsForState c m) where
       let q = part_is_pair p is in
       by_part kind.Relations o v p (pair_part q.0) q.2 (relation o v q.0)
   stored kind.Indexes o p v is = by_part kind.Indexes o v p _ is (λ has. of_index _ v refl (index_value (at c) m.tables m.indexes stands.state.tables stands.state.indexes stands.indexes o v has))
-  stored kind.DocumentRows o p v is = by_part kind.DocumentRows o v p _ is.2 (λ has. of_index _ v refl (document_row_value (at c) m.tables m.indexes stands.state.tables stands.state.indexes stands.indexes o v is.0 is.1 has))
-  stored kind.RowDocuments o p v is = by_part kind.RowDocuments o v p _ is.2 (λ has. of_index _ v refl (row_document_value (at c) m.tables m.indexes stands.state.tables stands.state.indexes stands.indexes o v is.0 is.1 has))
-  stored kind.Pending o p v is = by_part kind.Pending o v p _ is.2 (λ has. of_index _ v refl (pending_value (at c) m.tables m.indexes stands.state.tables stands.state.indexes stands.indexes o v is.0 is.1 has))
+  stored kind.DocumentRows o p v is = by_part kind.DocumentRows o v p _ is.2 (λ has. of_context _ v refl (document_row_value (at c) m.tables m.indexes stands.state.tables stands.state.indexes stands.indexes o v is.0 is.1 has))
+  stored kind.RowDocuments o p v is = by_part kind.RowDocuments o v p _ is.2 (λ has. of_context _ v refl (row_document_value (at c) m.tables m.indexes stands.state.tables stands.state.indexes stands.indexes o v is.0 is.1 has))
+  stored kind.Pending o p v is = by_part kind.Pending o v p _ is.2 (λ has. of_context _ v refl (pending_value (at c) m.tables m.indexes stands.state.tables stands.state.indexes stands.indexes o v is.0 is.1 has))
   stored kind.Postings o p v is = by_part kind.Postings o v p _ is.2.4 (posting o is.2.0 v is.0 is.1 is.2.1 is.2.2 is.2.3)
   stored kind.Spans o p v is = by_part kind.Spans o v p _ is.1.3 (spans o is.1.0 v is.0 is.1.1 is.1.2)
-  stored kind.Catalogue o p v is = nothing (key kind.Catalogue o p) v refl
+  stored kind.Catalogue o p v is = λ has. of_catalogue o p v (filed_value (at c) m.tables m.indexes stands.state.tables stands.state.indexes stands.indexes o p v is has)
   stored kind.Rules o p v is = nothing (key kind.Rules o p) v refl
   stored kind.Anchors o p v is = nothing (key kind.Anchors o p) v refl
   stored kind.RuleFaults o p v is = nothing (key kind.RuleFaults o p) v refl
@@ -109,7 +125,7 @@ module _ (c : Content) (m : StoreState) (stands : StandsForState c m) where
       let k = stands.only b (subst IsSome (sym has) refl) in
       let there : at c k.0 ≡ Some v = ap (get c) (sym k.1) ∙ has in
       let is = stored k.0.kind k.0.owner k.0.part v k.2.part there in (
-        subst (λ (spelling : List ℕ). IsEntry spelling v) (sym k.1) (entry_of_key k.0 v k.2 is.short is.bounded),
+        subst (λ (spelling : List ℕ). IsEntry spelling v) (sym k.1) (is.within k.2),
         record { key = k.0; spelt = k.1; parts = k.2; has = is.has },
       )
 

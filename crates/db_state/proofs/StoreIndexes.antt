@@ -1,5 +1,5 @@
 -- The entries that spell indexes are ones that a store has.
-use Rattle.std.proofs.Common.{◌≡◌, ℕ, ℤ, ◌+◌, ◌^◌, ◌<◌, ◌≤◌, List, [], ◌∷◌, length, true, Option, Some, None, refl, sym, ap, ◌∙◌, arith}
+use Rattle.std.proofs.Common.{◌≡◌, ℕ, ℤ, ◌+◌, ◌^◌, ◌<◌, ◌≤◌, List, [], ◌∷◌, length, true, Option, Some, None, refl, sym, ap, ◌∙◌, arith, inl, inr, subst}
 use Rattle.std.specs.Prelude.{is_some}
 use Rattle.std.specs.Int.{to_be_bytes, w32}
 use Rattle.std.specs.FinMap.{get}
@@ -8,7 +8,7 @@ use Rattle.ct_bytes.specs.RowKeys.{row_bytes}
 use Rattle.ct_bytes.specs.laws.RowKeys.{length-row_bytes}
 use Rattle.ct_keep.specs.Content.{value_limit}
 use Rattle.ct_entry.specs.declared.kinds.Kind.TheVariants as kind
-use Rattle.ct_entry.specs.Keys.{Key, key, row_part, document_part, IsRow, IsDocument}
+use Rattle.ct_entry.specs.Keys.{Key, key, row_part, document_part, IsRow, IsDocument, IsPart}
 use Rattle.ct_entry.specs.laws.Lists.{each_at_in}
 use Rattle.ct_entry.specs.Maps.{Names}
 use Rattle.tb_table.specs.Tables.{Tables}
@@ -23,8 +23,15 @@ use Rattle.ix_rows.specs.SpanRows.{IsSpanTerm}
 use Rattle.ix_rows.specs.laws.Rooms.{row_found}
 use Rattle.ix_docmap.specs.Marks.{is_settled}
 use Rattle.ix_context.specs.Standing.{PartStands}
-use Rattle.ix_indexes.specs.Indexes.{Defined, Index, index_entry, IndexesStand, AreIndexes, mark_of, mark_at, part_of, postings_in}
-use Rattle.ix_indexes.specs.laws.Indexes.{context_at, entry_at, context_is, marked_row}
+use Rattle.ix_kinds.specs.Rows.{table_at}
+use Rattle.ix_kinds.specs.Indextypes.{with_body}
+use Rattle.ix_kinds.specs.laws.Tables.{table_is}
+use Rattle.ix_context.specs.Indexes.{mark_limit}
+use Rattle.cat_index.specs.Shapes.{IsWordPart}
+use Rattle.cat_index.specs.laws.Well.{entry_well, row_well}
+use Rattle.ix_indexes.specs.Indexes.{Body, Defined, Index, index_entry, kinds, IndexesStand, AreIndexes, IsIndex, as_catalogue, marks_in, part_in, mark_of, mark_at, part_of, postings_in}
+use Rattle.ix_indexes.specs.Shapes.{HasIndexValue}
+use Rattle.ix_indexes.specs.laws.Indexes.{context_at, entry_at, kind_is, catalogue_is, catalogue_at, filed_in, marked_row}
 use Rattle.ix_context.specs.Shapes.{HasContextValue, StartsAt, IsRowFrom, IsSpanRowFrom}
 use Rattle.ix_context.specs.laws.Well.{length-entry_le}
 use Rattle.db_state.proofs.WeighIndexes.{settled_there, is_queued}
@@ -35,6 +42,14 @@ use Rattle.ix_context.specs.laws.Reading.{column_few}
 starts_at : {P : Type 0} (form : PlaceForm P) (row : List (RowDocument P)) (d : ℕ) (v : List ℕ) → IsPostingRowOf form row → d ≡ first_document document_number row → v ≡ posting_bytes_of form row → StartsAt form d v
 starts_at form [] d v row first spelt = let some = row.some in absurd (omega (arith, some))
 starts_at form (x ∷ xs) d v row first spelt = record { first = x; others = xs; starts = sym first; row = row; spelt = spelt }
+
+-- an index that has a settled row has no more marks than there are numbers
+few_given : (ts : Tables) (x : Index) → IsIndex ts x → (r : ℤ) → is_settled (marks_in x.body r) ≡ true → (part_in x.body).given ≤ mark_limit
+few_given ts x is r settled = go x.body (kind_is ts x is) settled
+  where
+    go : (b : Body) → kinds.is (table_at ts x.table) (with_body x b) → is_settled (marks_in b r) ≡ true → (part_in b).given ≤ mark_limit
+    go (inl b) rules h = rules.numbers
+    go (inr b) rules h = cc
 
 module _ (f : Key → Option (List ℕ)) (ts : Tables) (xs : Names Index) (tables : AreTables ts) (are : AreIndexes ts xs) (stand : IndexesStand f ts xs) where
   its_part : (i : List ℕ) → PartStands f i (postings_in ts (get xs i)) (mark_at xs i) (part_of (get xs i))
@@ -48,20 +63,40 @@ module _ (f : Key → Option (List ℕ)) (ts : Tables) (xs : Names Index) (table
       go None here settled within = cc
       go (Some x) here settled within =
           let rules = are.each i x here in
-          let few = (context_is ts x rules).numbers in
-          (marked_row ts x tables rules r (ap is_some (settled_there (get x.body.marks r) settled)), within.0, omega (arith, within.1, few))
+          let few = few_given ts x rules r settled in
+          (marked_row ts x tables rules r (ap is_some (settled_there (marks_in x.body r) settled)), within.0, omega (arith, within.1, few))
 
-  pub index_value : (i v : List ℕ) → f (key kind.Indexes i []) ≡ Some v → HasContextValue (key kind.Indexes i []) v × (length v ≤ value_limit)
+  -- the entry of an index, by its kind
+  its_value : (i : List ℕ) (x : Index) → IsIndex ts x → HasIndexValue (key kind.Indexes i []) (index_entry x) × (length (index_entry x) ≤ value_limit)
+  its_value i x index = go x.body (kind_is ts x index)
+    where
+      go : (b : Body) → kinds.is (table_at ts x.table) (with_body x b) → HasIndexValue (key kind.Indexes i []) (index_entry (with_body x b)) × (length (index_entry (with_body x b)) ≤ value_limit)
+      go (inl b) is =
+          let name = tables.names x.table index.target.table index.target.there in
+          let few = column_few ts tables x.table x.column index.target in
+          let most = is.numbers in
+          let long = length-entry_le x.table x.column x.prefs (b.part.given + 1) name index.prefs in
+          let same = entry_is Defined (with_body x b) in (
+            inl (record { table = x.table; column = x.column; prefs = x.prefs; next = b.part.given + 1; named = name; place = omega (arith, few); are = index.prefs; fits = omega (arith, most); spelt = sym same }),
+            omega (arith, long, ap length same),
+          )
+      go (inr b) is =
+          let few = column_few ts tables x.table x.column index.target in
+          let well = entry_well Defined i (with_body x b) (table_at ts x.table) (tables.names x.table index.target.table index.target.there) (omega (arith, few)) index.prefs is in
+          (inr well.0, well.1)
+
+  pub index_value : (i v : List ℕ) → f (key kind.Indexes i []) ≡ Some v → HasIndexValue (key kind.Indexes i []) v × (length v ≤ value_limit)
   index_value i v has =
       let x = option_map_some index_entry (get xs i) v (sym (entry_at f ts i (get xs i) (stand i)) ∙ has) in
-      let index = are.each i x.0 x.1 in
-      let name = tables.names x.0.table index.target.table index.target.there in
-      let few = column_few ts tables x.0.table x.0.column index.target in
-      let most = (context_is ts x.0 index).numbers in
-      let long = length-entry_le x.0.table x.0.column x.0.prefs (x.0.body.part.given + 1) name index.prefs in (
-        record { table = x.0.table; column = x.0.column; prefs = x.0.prefs; next = x.0.body.part.given + 1; named = name; place = omega (arith, few); are = index.prefs; fits = omega (arith, most); spelt = sym (entry_is Defined x.0 ∙ x.2) },
-        omega (arith, long, ap length (entry_is Defined x.0 ∙ x.2)),
-      )
+      subst (λ (w : List ℕ). HasIndexValue (key kind.Indexes i []) w × (length w ≤ value_limit)) x.2 (its_value i x.0 (are.each i x.0 x.1))
+
+  -- the entry of a row in a catalogue
+  pub filed_value : (i part v : List ℕ) → IsPart kind.Catalogue part → f (key kind.Catalogue i part) ≡ Some v → IsWordPart part × (v ≡ [])
+  filed_value i part v is has =
+      let found = filed_in f ts xs stand i part v has in
+      let x = found.0 in
+      let index = are.each i (as_catalogue x) found.1 in
+      (row_well f i x (table_at ts x.table) (table_is ts x.table index.target.table tables index.target.there) index.prefs (catalogue_is ts x index) (catalogue_at f ts xs stand i x found.1) part v is has).0
 
   pub document_row_value : (i v : List ℕ) (d : ℕ) → IsDocument d → f (key kind.DocumentRows i (document_part d)) ≡ Some v → HasContextValue (key kind.DocumentRows i (document_part d)) v × (length v ≤ value_limit)
   document_row_value i v d document has =

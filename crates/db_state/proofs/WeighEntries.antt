@@ -1,5 +1,5 @@
 -- One list of all entries that spell a state with a numbering, but for the rows of postings.
-use Rattle.std.proofs.Common.{ℕ, ℤ, List, [], ◌∷◌, ◌++◌, map, Option, Some, None}
+use Rattle.std.proofs.Common.{ℕ, ℤ, List, [], ◌∷◌, ◌++◌, map, Option, Some, None, inl, inr}
 use Rattle.std.specs.List.{flat_map}
 use Rattle.std.specs.Int.{to_be_bytes, w32}
 use Rattle.std.specs.FinMap.{entries}
@@ -7,10 +7,13 @@ use Rattle.ct_base.specs.declared.lists.Value.{Value}
 use Rattle.ct_bytes.specs.RowKeys.{row_bytes}
 use Rattle.ct_entry.specs.declared.kinds.Kind.TheVariants as kind
 use Rattle.ct_entry.specs.Keys.{Key, key, bytes, row_part, text_part, document_part}
-use Rattle.tb_table.specs.Tables.{Table, numbers_of, texts_of}
+use Rattle.tb_table.specs.Tables.{Table, Tables, numbers_of, texts_of}
 use Rattle.tb_table.specs.Spelling.{columns_bytes, row_numbers_bytes}
 use Rattle.ix_docmap.specs.Marks.{Mark, Pending, Settled}
-use Rattle.ix_indexes.specs.Indexes.{Index, index_entry}
+use Rattle.ix_kinds.specs.Rows.{table_at}
+use Rattle.ix_kinds.specs.Indextypes.{with_body}
+use Rattle.cat_index.specs.Entries.{catalogue_entries}
+use Rattle.ix_indexes.specs.Indexes.{Body, Index, index_entry, listed_marks}
 use Rattle.tx_prefs.specs.Room.{preference_entries}
 use Rattle.th_store.specs.Room.{thesaurus_entries}
 use Rattle.db_state.specs.States.{StoreState}
@@ -42,10 +45,15 @@ abbrev pub mark_entries : (List ℕ → ℤ → Option ℕ) → List ℕ → ℤ
 mark_entries document i (r, Pending) = entry (key kind.Pending i (row_part r)) [] ∷ []
 mark_entries document i (r, Settled _) = document_entries i r (document i r)
 
-abbrev pub index_entries : (List ℕ → ℤ → Option ℕ) → List ℕ × Index → List Entry
-index_entries document e = entry (key kind.Indexes e.0 []) (index_entry e.1) ∷ flat_map (mark_entries document e.0) (entries e.1.body.marks)
+-- those of the rows of its table in a catalogue
+abbrev pub filed_entries : Tables → List ℕ → Index → Body → List Entry
+filed_entries ts i x (inl c) = []
+filed_entries ts i x (inr b) = catalogue_entries i (with_body x b) (table_at ts x.table)
+
+abbrev pub index_entries : (List ℕ → ℤ → Option ℕ) → Tables → List ℕ × Index → List Entry
+index_entries document ts e = entry (key kind.Indexes e.0 []) (index_entry e.1) ∷ (flat_map (mark_entries document e.0) (listed_marks e.1.body) ++ filed_entries ts e.0 e.1 e.1.body)
 
 -- ---- the state
 
 abbrev pub all_entries : (List ℕ → ℤ → Option ℕ) → StoreState → List Entry
-all_entries document m = flat_map table_entries (entries m.tables) ++ (flat_map (index_entries document) (entries m.indexes) ++ (preference_entries m.preferences ++ thesaurus_entries m.thesauri))
+all_entries document m = flat_map table_entries (entries m.tables) ++ (flat_map (index_entries document m.tables) (entries m.indexes) ++ (preference_entries m.preferences ++ thesaurus_entries m.thesauri))

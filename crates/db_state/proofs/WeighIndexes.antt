@@ -7,17 +7,19 @@ use Rattle.std.specs.FinMap.{get, entries, nat_cmp-IsAntisymmetric, int_cmp-IsAn
 use Rattle.ct_base.specs.laws.Options.{option_map_some}
 use Rattle.ct_bytes.specs.RowKeys.{row_bytes}
 use Rattle.ct_entry.specs.declared.kinds.Kind.TheVariants as kind
-use Rattle.ct_entry.specs.Keys.{Key, key, row_part, document_part, IsRow, IsDocument}
+use Rattle.ct_entry.specs.Keys.{Key, key, row_part, document_part, IsRow, IsDocument, IsPart}
 use Rattle.ct_entry.specs.Lists.{IsIn}
-use Rattle.ct_entry.specs.laws.Lists.{in_flat_mapped}
+use Rattle.ct_entry.specs.laws.Lists.{in_flat_mapped, in_left, in_right}
 use Rattle.ct_entry.specs.laws.MapEntries.{get_in}
 use Rattle.ct_entry.specs.Maps.{Names}
 use Rattle.tb_table.specs.Tables.{Tables}
 use Rattle.ix_docmap.specs.Marks.{Mark, Pending, Settled, is_settled, queued}
 use Rattle.ix_context.specs.Standing.{PartStands}
-use Rattle.ix_indexes.specs.Indexes.{Index, index_entry, IndexesStand, mark_of, mark_at, part_of, postings_in}
-use Rattle.ix_indexes.specs.laws.Indexes.{context_at, entry_at}
-use Rattle.db_state.proofs.WeighEntries.{Entry, entry, document_entries, mark_entries, index_entries}
+use Rattle.cat_index.specs.laws.Weights.{entry_listed}
+use Rattle.ix_indexes.specs.Indexes.{Body, Index, index_entry, IndexesStand, as_catalogue, listed_marks, marks_in, mark_of, mark_at, part_of, postings_in}
+use Rattle.ix_indexes.specs.laws.Indexes.{context_at, entry_at, catalogue_at, filed_in}
+use Rattle.ix_kinds.specs.Rows.{table_at}
+use Rattle.db_state.proofs.WeighEntries.{Entry, entry, document_entries, mark_entries, filed_entries, index_entries}
 
 -- ---- marks
 
@@ -31,9 +33,14 @@ is_queued None v is = cc
 is_queued (Some Pending) v is = (refl, cc)
 is_queued (Some (Settled a)) v is = cc
 
-mark_there : (o : Option Index) (r : ℤ) (m : Mark (Unit {0})) → mark_of o r ≡ Some m → (x : Index) × (o ≡ Some x) × (get x.body.marks r ≡ Some m)
+mark_there : (o : Option Index) (r : ℤ) (m : Mark (Unit {0})) → mark_of o r ≡ Some m → (x : Index) × (o ≡ Some x) × (marks_in x.body r ≡ Some m)
 mark_there None r m h = cc
 mark_there (Some x) r m h = (x, refl, h)
+
+-- a mark is among those listed
+mark_listed : (b : Body) (r : ℤ) (m : Mark (Unit {0})) → marks_in b r ≡ Some m → IsIn (r, m) (listed_marks b)
+mark_listed (inl c) r m at = get_in int_cmp-IsAntisymmetric c.marks r m at
+mark_listed (inr b) r m at = cc
 
 -- ---- the entries of indexes
 
@@ -47,15 +54,15 @@ module _ (f : Key → Option (List ℕ)) (ts : Tables) (xs : Names Index) (stand
 
   -- the entry is among those of all indexes
   abbrev IsListed : Entry → Type 0
-  IsListed e = IsIn e (flat_map (index_entries numbers) (entries xs))
+  IsListed e = IsIn e (flat_map (index_entries numbers ts) (entries xs))
 
   -- what is among an index's entries
-  in_index : (i : List ℕ) (x : Index) (e : Entry) → get xs i ≡ Some x → IsIn e (index_entries numbers (i, x)) → IsListed e
-  in_index i x e is h = in_flat_mapped (index_entries numbers) (i, x) (entries xs) e (get_in (slice_cmp-IsAntisymmetric nat_cmp-IsAntisymmetric) xs i x is) h
+  in_index : (i : List ℕ) (x : Index) (e : Entry) → get xs i ≡ Some x → IsIn e (index_entries numbers ts (i, x)) → IsListed e
+  in_index i x e is h = in_flat_mapped (index_entries numbers ts) (i, x) (entries xs) e (get_in (slice_cmp-IsAntisymmetric nat_cmp-IsAntisymmetric) xs i x is) h
 
   -- what is among a mark's
-  in_mark : (i : List ℕ) (x : Index) (r : ℤ) (m : Mark (Unit {0})) (e : Entry) → get xs i ≡ Some x → get x.body.marks r ≡ Some m → IsIn e (mark_entries numbers i (r, m)) → IsListed e
-  in_mark i x r m e is at h = in_index i x e is (inr (in_flat_mapped (mark_entries numbers i) (r, m) (entries x.body.marks) e (get_in int_cmp-IsAntisymmetric x.body.marks r m at) h))
+  in_mark : (i : List ℕ) (x : Index) (r : ℤ) (m : Mark (Unit {0})) (e : Entry) → get xs i ≡ Some x → marks_in x.body r ≡ Some m → IsIn e (mark_entries numbers i (r, m)) → IsListed e
+  in_mark i x r m e is at h = in_index i x e is (inr (in_left e (flat_map (mark_entries numbers i) (listed_marks x.body)) (filed_entries ts i x x.body) (in_flat_mapped (mark_entries numbers i) (r, m) (listed_marks x.body) e (mark_listed x.body r m at) h)))
 
   -- what is among a document's
   in_document : (i : List ℕ) (r : ℤ) (d : ℕ) (e : Entry) → numbers i r ≡ Some d → IsIn e (document_entries i r (Some d)) → IsListed e
@@ -84,3 +91,11 @@ module _ (f : Key → Option (List ℕ)) (ts : Tables) (xs : Names Index) (stand
       let q = is_queued (mark_at xs i r) v (sym ((its_part i).documents.queue r row) ∙ has) in
       let x = mark_there (get xs i) r Pending q.0 in
       in_mark i x.0 r Pending _ x.1 x.2 (inl (ap (entry (key kind.Pending i (row_part r))) q.1))
+
+  pub filed_entry_in : (i part v : List ℕ) → IsPart kind.Catalogue part → f (key kind.Catalogue i part) ≡ Some v → IsListed (entry (key kind.Catalogue i part) v)
+  filed_entry_in i part v is has =
+      let found = filed_in f ts xs stand i part v has in
+      let x = found.0 in
+      in_index i (as_catalogue x) _ found.1
+      (inr (in_right (entry (key kind.Catalogue i part) v) (flat_map (mark_entries numbers i) (listed_marks (inr x.body))) (filed_entries ts i (as_catalogue x) (inr x.body))
+      (entry_listed f i x (table_at ts x.table) (catalogue_at f ts xs stand i x found.1) part v is has)))

@@ -1,5 +1,5 @@
 -- The entries that spell a state, and what its postings may take, weigh at most its room.
-use Rattle.std.proofs.Common.{◌≡◌, ℕ, ◌+◌, ◌≤◌, ℤ, List, [], ◌∷◌, ◌++◌, length, map, Option, Some, None, refl, arith, length-append}
+use Rattle.std.proofs.Common.{◌≡◌, ℕ, ◌+◌, ◌≤◌, ℤ, List, [], ◌∷◌, ◌++◌, length, map, Option, Some, None, refl, arith, length-append, inl, inr}
 use Rattle.std.specs.Prelude.{sum_by, filter}
 use Rattle.std.specs.List.{flat_map}
 use Rattle.std.specs.Int.{to_be_bytes, w32}
@@ -16,13 +16,16 @@ use Rattle.ix_rows.specs.PlacedRows.{last_document}
 use Rattle.ix_docmap.specs.Marks.{Mark, Pending, Settled, is_settled}
 use Rattle.ix_context.specs.Documents.{document_cost}
 use Rattle.ix_context.specs.Contexts.{mark_room}
-use Rattle.ix_indexes.specs.Indexes.{Index, index_entry, postings_in}
+use Rattle.ix_kinds.specs.Rows.{table_at}
+use Rattle.ix_kinds.specs.Indextypes.{with_body}
+use Rattle.cat_index.specs.laws.Weights.{entries_weigh}
+use Rattle.ix_indexes.specs.Indexes.{Body, Index, index_entry, kinds, listed_marks, part_in, postings_in}
 use Rattle.tx_prefs.specs.Room.{preference_entries}
 use Rattle.th_store.specs.Room.{thesaurus_entries}
 use Rattle.db_state.specs.States.{StoreState}
 use Rattle.db_state.specs.Room.{key_weight, text_room, row_room, table_room, index_room, room}
 use Rattle.ct_entry.specs.laws.Lists.{sum_by-map-le, sum_by-flat_map-le}
-use Rattle.db_state.proofs.WeighEntries.{entry, text_entry, row_entries, table_entries, document_entries, mark_entries, index_entries, all_entries}
+use Rattle.db_state.proofs.WeighEntries.{entry, text_entry, row_entries, table_entries, document_entries, mark_entries, filed_entries, index_entries, all_entries}
 
 -- ---- what tables weigh
 
@@ -99,23 +102,35 @@ costs_are ts i x ((r, Settled a) ∷ es) =
 
 -- what an index has room for, for its postings
 abbrev pub postings_room : Tables → List ℕ × Index → ℕ
-postings_room ts e = sum_by (λ r. document_cost e.0 (postings_in ts (Some e.1) r)) (settled_keys (entries e.1.body.marks)) + e.1.body.part.waste
+postings_room ts e = sum_by (λ r. document_cost e.0 (postings_in ts (Some e.1) r)) (settled_keys (listed_marks e.1.body)) + (part_in e.1.body).waste
 
-index_weighs : (document : List ℕ → ℤ → Option ℕ) (ts : Tables) (e : List ℕ × Index) → sum_by entry_weight (index_entries document e) + postings_room ts e ≤ index_room ts e
+-- by the kind of the index: what its entries weigh beside the one of its own
+body_weighs : (document : List ℕ → ℤ → Option ℕ) (ts : Tables) (i : List ℕ) (x : Index) (b : Body)
+    → sum_by entry_weight (flat_map (mark_entries document i) (listed_marks b) ++ filed_entries ts i x b) + (sum_by (λ r. document_cost i (postings_in ts (Some x) r)) (settled_keys (listed_marks b)) + (part_in b).waste)
+    ≤ kinds.room i (with_body x b) (table_at ts x.table)
+body_weighs document ts i x (inl c) =
+    omega (
+      arith,
+      sum_by-append entry_weight (flat_map (mark_entries document i) (entries c.marks)) [],
+      marks_weigh document ts i x (entries c.marks),
+      costs_are ts i x (entries c.marks),
+    )
+body_weighs document ts i x (inr b) = omega (arith, entries_weigh i (with_body x b) (table_at ts x.table))
+
+index_weighs : (document : List ℕ → ℤ → Option ℕ) (ts : Tables) (e : List ℕ × Index) → sum_by entry_weight (index_entries document ts e) + postings_room ts e ≤ index_room ts e
 index_weighs document ts e =
     omega (
       arith,
-      sum_by-cons entry_weight (entry (key kind.Indexes e.0 []) (index_entry e.1)) (flat_map (mark_entries document e.0) (entries e.1.body.marks)),
-      marks_weigh document ts e.0 e.1 (entries e.1.body.marks),
-      costs_are ts e.0 e.1 (entries e.1.body.marks),
+      sum_by-cons entry_weight (entry (key kind.Indexes e.0 []) (index_entry e.1)) (flat_map (mark_entries document e.0) (listed_marks e.1.body) ++ filed_entries ts e.0 e.1 e.1.body),
+      body_weighs document ts e.0 e.1 e.1.body,
     )
 
-indexes_weigh : (document : List ℕ → ℤ → Option ℕ) (ts : Tables) (es : List (List ℕ × Index)) → sum_by entry_weight (flat_map (index_entries document) es) + sum_by (postings_room ts) es ≤ sum_by (index_room ts) es
+indexes_weigh : (document : List ℕ → ℤ → Option ℕ) (ts : Tables) (es : List (List ℕ × Index)) → sum_by entry_weight (flat_map (index_entries document ts) es) + sum_by (postings_room ts) es ≤ sum_by (index_room ts) es
 indexes_weigh document ts [] = omega arith
 indexes_weigh document ts (e ∷ es) =
     omega (
       arith,
-      sum_by-append entry_weight (index_entries document e) (flat_map (index_entries document) es),
+      sum_by-append entry_weight (index_entries document ts e) (flat_map (index_entries document ts) es),
       sum_by-cons (postings_room ts) e es,
       sum_by-cons (index_room ts) e es,
       index_weighs document ts e,
@@ -127,8 +142,8 @@ indexes_weigh document ts (e ∷ es) =
 pub all_weigh : (document : List ℕ → ℤ → Option ℕ) (m : StoreState) → sum_by entry_weight (all_entries document m) + sum_by (postings_room m.tables) (entries m.indexes) ≤ room m
 all_weigh document m = omega (
   arith,
-  sum_by-append entry_weight (flat_map table_entries (entries m.tables)) (flat_map (index_entries document) (entries m.indexes) ++ (preference_entries m.preferences ++ thesaurus_entries m.thesauri)),
-  sum_by-append entry_weight (flat_map (index_entries document) (entries m.indexes)) (preference_entries m.preferences ++ thesaurus_entries m.thesauri),
+  sum_by-append entry_weight (flat_map table_entries (entries m.tables)) (flat_map (index_entries document m.tables) (entries m.indexes) ++ (preference_entries m.preferences ++ thesaurus_entries m.thesauri)),
+  sum_by-append entry_weight (flat_map (index_entries document m.tables) (entries m.indexes)) (preference_entries m.preferences ++ thesaurus_entries m.thesauri),
   sum_by-append entry_weight (preference_entries m.preferences) (thesaurus_entries m.thesauri),
   sum_by-flat_map-le table_entries entry_weight table_room table_weighs (entries m.tables),
   indexes_weigh document m.tables (entries m.indexes),

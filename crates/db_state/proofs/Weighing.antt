@@ -18,7 +18,7 @@ use Rattle.ct_entry.specs.laws.Lists.{in_left, in_right, in_mapped}
 use Rattle.ct_entry.specs.laws.MapEntries.{get_in, in_get}
 use Rattle.ix_docmap.specs.Marks.{Mark, is_settled}
 use Rattle.ix_context.specs.Documents.{document_cost}
-use Rattle.ix_indexes.specs.Indexes.{Index, mark_of, part_of, postings_in}
+use Rattle.ix_indexes.specs.Indexes.{Body, Index, listed_marks, marks_in, mark_of, part_of, postings_in}
 use Rattle.ix_indexes.specs.laws.Indexes.{context_at}
 use Rattle.ix_context.specs.laws.Weights.{has_code, weighs as postings_weigh}
 use Rattle.tx_prefs.specs.Room.{preference_entries}
@@ -32,7 +32,7 @@ use Rattle.db_state.specs.Room.{room}
 use Rattle.db_state.proofs.WeighEntries.{Entry, entry, table_entries, index_entries, all_entries}
 use Rattle.db_state.proofs.WeighRooms.{all_weigh, settled_keys, postings_room}
 use Rattle.db_state.proofs.WeighTables.{table_in, numbers_in, text_in_all}
-use Rattle.db_state.proofs.WeighIndexes.{numbers, index_in, document_row_in, row_document_in, pending_in}
+use Rattle.db_state.proofs.WeighIndexes.{numbers, index_in, document_row_in, row_document_in, pending_in, filed_entry_in}
 
 -- a row that is settled is among the settled ones
 in_settled : (r : ℤ) (es : List (ℤ × Mark (Unit {0}))) → is_settled (find int_cmp r es) ≡ true → IsIn r (settled_keys es)
@@ -60,19 +60,19 @@ module _ (c : Content) (m : StoreState) (stands : StandsForState c m) where
   defined = preference_entries m.preferences ++ thesaurus_entries m.thesauri
 
   abbrev others : List Entry
-  others = flat_map (index_entries its_numbers) (entries m.indexes) ++ defined
+  others = flat_map (index_entries its_numbers m.tables) (entries m.indexes) ++ defined
 
   of_tables : (e : Entry) → IsIn e (flat_map table_entries (entries m.tables)) → IsIn e (all_entries its_numbers m)
   of_tables e h = in_left e (flat_map table_entries (entries m.tables)) others h
 
-  of_indexes : (e : Entry) → IsIn e (flat_map (index_entries its_numbers) (entries m.indexes)) → IsIn e (all_entries its_numbers m)
-  of_indexes e h = in_right e (flat_map table_entries (entries m.tables)) others (in_left e (flat_map (index_entries its_numbers) (entries m.indexes)) defined h)
+  of_indexes : (e : Entry) → IsIn e (flat_map (index_entries its_numbers m.tables) (entries m.indexes)) → IsIn e (all_entries its_numbers m)
+  of_indexes e h = in_right e (flat_map table_entries (entries m.tables)) others (in_left e (flat_map (index_entries its_numbers m.tables) (entries m.indexes)) defined h)
 
   of_preferences : (e : Entry) → IsIn e (preference_entries m.preferences) → IsIn e (all_entries its_numbers m)
-  of_preferences e h = in_right e (flat_map table_entries (entries m.tables)) others (in_right e (flat_map (index_entries its_numbers) (entries m.indexes)) defined (in_left e (preference_entries m.preferences) (thesaurus_entries m.thesauri) h))
+  of_preferences e h = in_right e (flat_map table_entries (entries m.tables)) others (in_right e (flat_map (index_entries its_numbers m.tables) (entries m.indexes)) defined (in_left e (preference_entries m.preferences) (thesaurus_entries m.thesauri) h))
 
   of_thesauri : (e : Entry) → IsIn e (thesaurus_entries m.thesauri) → IsIn e (all_entries its_numbers m)
-  of_thesauri e h = in_right e (flat_map table_entries (entries m.tables)) others (in_right e (flat_map (index_entries its_numbers) (entries m.indexes)) defined (in_right e (preference_entries m.preferences) (thesaurus_entries m.thesauri) h))
+  of_thesauri e h = in_right e (flat_map table_entries (entries m.tables)) others (in_right e (flat_map (index_entries its_numbers m.tables) (entries m.indexes)) defined (in_right e (preference_entries m.preferences) (thesaurus_entries m.thesauri) h))
 
   -- a kind that has no entries
   nothing : (k : Key) (v : List ℕ) → is_built k.kind ≡ false → at c k ≡ Some v → IsListed k v
@@ -101,7 +101,7 @@ module _ (c : Content) (m : StoreState) (stands : StandsForState c m) where
   listed kind.Pending o p v other is = by_part kind.Pending o v p _ is.2 (λ has. of_indexes _ (pending_in (at c) m.tables m.indexes stands.indexes o v is.0 is.1 has))
   listed kind.Postings o p v other is = cc
   listed kind.Spans o p v other is = cc
-  listed kind.Catalogue o p v other is = nothing (key kind.Catalogue o p) v refl
+  listed kind.Catalogue o p v other is = λ has. of_indexes _ (filed_entry_in (at c) m.tables m.indexes stands.indexes o p v is has)
   listed kind.Rules o p v other is = nothing (key kind.Rules o p) v refl
   listed kind.Anchors o p v other is = nothing (key kind.Anchors o p) v refl
   listed kind.RuleFaults o p v other is = nothing (key kind.RuleFaults o p) v refl
@@ -125,11 +125,15 @@ module _ (c : Content) (m : StoreState) (stands : StandsForState c m) where
   -- the settled rows of the index of a name
   abbrev settled_of : Option Index → List ℤ
   settled_of None = []
-  settled_of (Some x) = settled_keys (entries x.body.marks)
+  settled_of (Some x) = settled_keys (listed_marks x.body)
 
   settled_listed : (o : Option Index) (r : ℤ) → is_settled (mark_of o r) ≡ true → IsIn r (settled_of o)
   settled_listed None r h = cc
-  settled_listed (Some x) r h = in_settled r (entries x.body.marks) (ap is_settled (sym (get-entries x.body.marks r)) ∙ h)
+  settled_listed (Some x) r h = go x.body h
+    where
+      go : (b : Body) → is_settled (marks_in b r) ≡ true → IsIn r (settled_keys (listed_marks b))
+      go (inl b) h = in_settled r (entries b.marks) (ap is_settled (sym (get-entries b.marks r)) ∙ h)
+      go (inr b) h = cc
 
   abbrev room_of : List ℕ → ℕ
   room_of i = sum_by (λ r. document_cost i (postings_in m.tables (get m.indexes i) r)) (settled_of (get m.indexes i)) + (part_of (get m.indexes i)).waste

@@ -10,6 +10,7 @@ use Rattle.db_names.specs.declared.heads.IndexKind.{IndexKind}
 use Rattle.db_names.specs.declared.heads.IndexKind.TheVariants.{Context, Catalogue}
 use Rattle.db_names.specs.Heads.{index_code}
 use Rattle.std.specs.Bool.{if◌then◌else◌}
+use Rattle.std.proofs.Common.{inl}
 use Rattle.ct_entry.specs.Keys.{same_list}
 
 -- the index is of this kind, and on the column, by its place in the table
@@ -31,7 +32,7 @@ FoundOn kind xs t place None = index_on kind xs t place ≡ None
 
 -- computed examples: two indexes on columns of `docs`, whatever their marks, and none on another column, or of another kind
 abbrev on_docs : ℕ → Rows (Mark (Unit {0})) → Index
-on_docs column marks = record { table = codes "docs"; column = column; prefs = default_prefs; body = record { part = no_part; marks = marks } }
+on_docs column marks = record { table = codes "docs"; column = column; prefs = default_prefs; body = inl (record { part = no_part; marks = marks }) }
 
 the_second : (ms : Rows (Mark (Unit {0}))) → index_among Context (codes "docs") 2 ((codes "di", on_docs 1 ms) ∷ (codes "dj", on_docs 2 ms) ∷ []) ≡ Some (on_docs 2 ms)
 the_second ms = refl

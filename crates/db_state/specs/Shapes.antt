@@ -7,14 +7,14 @@ use Rattle.ct_entry.specs.declared.kinds.Kind.TheVariants as kind
 use Rattle.ct_entry.specs.Keys.{Key, key, row_part}
 use Rattle.ct_entry.specs.Shapes.{IsShaped, AreShaped}
 use Rattle.tb_table.specs.Shapes.{HasTableValue}
-use Rattle.ix_context.specs.Shapes.{HasContextValue}
+use Rattle.ix_indexes.specs.Shapes.{HasIndexValue}
 use Rattle.tx_prefs.specs.Shapes.{HasPrefValue}
 use Rattle.th_store.specs.Shapes.{HasThesaurusValue}
 
--- The value is one that entries of tables, of CONTEXT indexes, of what is defined for indexes, or of thesauri have under the key. No kind of entry is
+-- The value is one that entries of tables, of indexes, of what is defined for indexes, or of thesauri have under the key. No kind of entry is
 -- of two of these; and for now there is no other kind in a store.
 abbrev pub HasStoreValue : Key → List ℕ → Type 0
-HasStoreValue k value = HasTableValue k value ⊎ (HasContextValue k value ⊎ (HasPrefValue k value ⊎ HasThesaurusValue k value))
+HasStoreValue k value = HasTableValue k value ⊎ (HasIndexValue k value ⊎ (HasPrefValue k value ⊎ HasThesaurusValue k value))
 
 -- an entry of a store, by its key and its value; that it is within the bounds of keys and values is asked beside it, as of every entry of a keeper
 abbrev pub IsStoreEntry : List ℕ → List ℕ → Type 0

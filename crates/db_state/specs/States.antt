@@ -11,7 +11,9 @@ use Rattle.ct_entry.specs.Maps.{Names}
 use Rattle.tb_table.specs.Tables.{Table, Tables}
 use Rattle.tb_table.specs.Spelling.{TablesStand}
 use Rattle.tb_table.specs.Rules.{AreTables}
-use Rattle.ix_indexes.specs.Indexes.{Index, IndexesStand, AreIndexes}
+use Rattle.ix_kinds.specs.Indextypes.{IndexOf}
+use Rattle.ix_context.specs.Indexes.{ContextIndex}
+use Rattle.ix_indexes.specs.Indexes.{Index, IndexesStand, AreIndexes, as_index}
 use Rattle.tx_prefs.specs.Preferences.{Preferences, no_preferences}
 use Rattle.tx_prefs.specs.Spelling.{PreferencesStand}
 use Rattle.tx_prefs.specs.Rules.{ArePreferences}
@@ -51,7 +53,7 @@ pub record IsState (m : StoreState) : Type 0 where
   pub preferences : ArePreferences m.preferences
   pub thesauri : AreThesauri m.thesauri
 
--- the kinds of entries that tables, CONTEXT indexes, lexer preferences, stoplists, section groups, index sets and thesauri have; for now there is nothing else that is kept
+-- the kinds of entries that tables, CONTEXT indexes, catalogues, lexer preferences, stoplists, section groups, index sets and thesauri have; for now there is nothing else that is kept
 abbrev pub is_built : Kind → Bool
 is_built kind.Tables = true
 is_built kind.RowNumbers = true
@@ -68,7 +70,7 @@ is_built kind.RowDocuments = true
 is_built kind.Pending = true
 is_built kind.Postings = true
 is_built kind.Spans = true
-is_built kind.Catalogue = false
+is_built kind.Catalogue = true
 is_built kind.Rules = false
 is_built kind.Anchors = false
 is_built kind.RuleFaults = false
@@ -108,6 +110,10 @@ OverNamedTable view old t holds = (m : StoreState) (c : Content) (x : Table) →
 -- This holds of the index of this name, where there is one.
 abbrev pub OverIndex : {K : Type 0} → (K → KeeperView) → K → List ℕ → (StoreState → Index → Type 0) → Type 0
 OverIndex view old i holds = (m : StoreState) (c : Content) (x : Index) → (view old).content ≡ Some c → StandsForState c m → get m.indexes i ≡ Some x → holds m x
+
+-- This holds of the CONTEXT index of this name, where there is one.
+abbrev pub OverContext : {K : Type 0} → (K → KeeperView) → K → List ℕ → (StoreState → IndexOf ContextIndex → Type 0) → Type 0
+OverContext view old i holds = (m : StoreState) (c : Content) (x : IndexOf ContextIndex) → (view old).content ≡ Some c → StandsForState c m → get m.indexes i ≡ Some (as_index x) → holds m x
 
 -- What a call gave, unless it failed.
 abbrev pub Sees : {K T : Type 0} → (K → KeeperView) → K → Result T KeepFault → (StoreState → T → Type 0) → Type 0

@@ -14,3 +14,5 @@ pub mod Kinds
 pub mod Holding
 pub mod Unchanged
 pub mod Contexts
+pub mod CatalogueKeys
+pub mod NoteKeys

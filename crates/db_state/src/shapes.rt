@@ -5,13 +5,13 @@ ghost use Rattle.db_state.specs.Shapes.{IsStoreEntry};
 use ct_base::Memory;
 use ct_entry::key_parts;
 use ct_keep::Shape;
-use ix_context::is_context_shape;
+use ix_indexes::is_index_shape;
 use std::alloc::Global;
 use tb_table::is_table_shape;
 use th_store::is_thesaurus_shape;
 use tx_prefs::is_pref_shape;
 
-/// The shape of a store: each entry is one of a table, of a CONTEXT index, of a preference, a stoplist, a section group or an index
+/// The shape of a store: each entry is one of a table, of an index, of a preference, a stoplist, a section group or an index
 /// set, or of a thesaurus, with a key and a value of its kind's form (docs/STORE.md). To tell of an entry costs the length of its key
 /// and its value.
 #[derive(Drop)]
@@ -27,7 +27,7 @@ impl Shape for StoreShape {
         if is_table_shape(alloc, kind, part, value)? {
             return Ok(true);
         }
-        if is_context_shape(alloc, kind, part, value)? {
+        if is_index_shape(alloc, kind, part, value)? {
             return Ok(true);
         }
         if is_pref_shape(alloc, kind, part, value)? {

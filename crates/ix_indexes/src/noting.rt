@@ -1,33 +1,46 @@
 //! What a statement tells the indexes on a table of a row.
 #![tactic(auto, using(ct_keep::specs::laws::Composing::reads_on, ct_keep::specs::laws::Composing::reads_short))]
 
-ghost use Rattle.std.specs.Prelude.{◌≡◌, IfOk, OnErr, Err};
+ghost use Rattle.std.specs.Prelude.{◌≡◌, ◌≤◌, ℕ, List, Option, IfOk, Err, length, true, false};
+ghost use Rattle.std.specs.List.{list_all};
+ghost use Rattle.ct_base.specs.Limits.{sub_index_limit};
 ghost use Rattle.ct_keep.specs.KeeperViews.{Finds, OnlyReads, ReadsKeeper, Told};
 ghost use Rattle.ct_keep.specs.Looks.{LooksAtMost, no_looks};
-ghost use Rattle.ct_entry.specs.Keys.{at};
+ghost use Rattle.ct_entry.specs.Keys.{Key, at};
 ghost use Rattle.ct_entry.specs.Changes.{spell};
 ghost use Rattle.ct_entry.specs.Shapes.{AreShaped};
+ghost use Rattle.tb_table.specs.Tables.{text_in_column};
+ghost use Rattle.tx_settings.specs.Attributes.{can_be_set};
 ghost use Rattle.ix_docmap.specs.Readings.{document_at};
+ghost use Rattle.ix_kinds.specs.Rows.{RowChange};
 ghost use Rattle.ix_context.specs.Changes.{Adds};
+ghost use Rattle.ix_context.specs.Contexts.{context_changes};
 ghost use Rattle.ix_context.specs.Faults.{context_fault_of};
 ghost use Rattle.ix_context.specs.Shapes.{HasContextValue, KeepsShape};
-ghost use Rattle.ix_indexes.specs.Noting.{event_changes, kind_changes, heads_changes};
+ghost use Rattle.cat_index.specs.Filings.{IsShortOrNone, fit_sub_index};
+ghost use Rattle.cat_index.specs.Catalogues.{filing_at};
+ghost use Rattle.cat_index.specs.Changes.{filing_changes, set_changes};
+ghost use Rattle.cat_index.specs.Shapes.{HasCatalogueValue, IsFiling};
+ghost use Rattle.ix_indexes.specs.declared.loading.Noting.TheVariants.{InCatalogue as HeldCatalogue};
+ghost use Rattle.ix_indexes.specs.Noting.{AllCanTell, CanTell, IsToldBy, all_noted_changes, any_needs_values, needs_values as needs_its_values, noted_by, noted_changes, noted_indexes};
+ghost use Rattle.ix_indexes.specs.Shapes.{HasIndexValue};
 
-use ct_base::{Name, RowKey};
+use crate::loading::{Noting, TableIndex};
+use cat_index::{Catalogue, Filing, row_comes, row_filing, row_goes, row_is_set};
+use ct_base::{Listed, Memory, Name, RowKey, Value};
 use ct_keep::{Batch, KeepFault, Keeper};
-use db_names::{IndexHead, IndexKind};
 use ix_context::{ContextFault, note_delete, note_insert, note_update};
 use std::alloc::Global;
 
-/// What a statement does to a row.
-#[derive(Clone, Copy, Debug, PartialEq, Eq)]
-pub enum RowEvent {
-    /// The row is new.
-    Comes,
-    /// A column of it is set that the index looks at.
-    Changes,
-    /// The row goes.
-    Goes,
+/// What a statement does to a row, with the values that it has behind its key before and after.
+#[derive(Clone, Copy, Debug)]
+pub enum RowEvent<'v> {
+    /// The row is new, and has these values.
+    Comes(&'v [Value]),
+    /// A column of it is set that the index looks at: it had the first values, and has the second.
+    Changes(&'v [Value], &'v [Value]),
+    /// The row goes, which had these values.
+    Goes(&'v [Value]),
 }
 
 /// Adds the changes of a row in a CONTEXT index.
@@ -37,11 +50,10 @@ fn note_in_context<K: Keeper>(
     batch: &mut Batch,
     index: &Name,
     row: RowKey,
-    event: RowEvent,
+    event: RowEvent<'_>,
 ) -> Result<(), ContextFault>
     requires { (K.view keeper.old).ready }
-    ensures changes { Told K.view keeper.old (λ m. Adds batch.old batch.new result (event_changes index.now row.0 event (document_at (at m) index.now row.0))) }
-    ensures err { OnErr result (batch.new ≡ batch.old) }
+    ensures changes { Told K.view keeper.old (λ m. (c : RowChange) → IsToldBy event.entry false row.0 c → Adds batch.old batch.new result (context_changes index.now c.row c.old c.new (document_at (at m) index.now c.row))) }
     ensures never_too_many { result ≡ Err ContextFault.TooMany → ⊥ }
     ensures shaped { KeepsShape batch.old batch.new result }
     ensures reads { ReadsKeeper (K.view keeper.old) (K.view keeper.new) (context_fault_of result) }
@@ -50,60 +62,180 @@ fn note_in_context<K: Keeper>(
     // Read so that the proof knows that it is a name.
     let _named = index.as_str();
     match event {
-        RowEvent::Comes => note_insert(alloc, batch, index, row),
-        RowEvent::Changes => note_update(alloc, keeper, batch, index, row),
-        RowEvent::Goes => note_delete(alloc, keeper, batch, index, row),
+        RowEvent::Comes(_) => note_insert(alloc, batch, index, row),
+        RowEvent::Changes(_, _) => note_update(alloc, keeper, batch, index, row),
+        RowEvent::Goes(_) => note_delete(alloc, keeper, batch, index, row),
     }
 }
 
-/// Adds the changes of a row in an index of this kind.
-fn note_row<K: Keeper>(
+/// The changes of a row in a CONTEXT index.
+fn context_notes<K: Keeper>(
     alloc: Global,
     keeper: &mut K,
-    batch: &mut Batch,
     index: &Name,
-    kind: IndexKind,
     row: RowKey,
-    event: RowEvent,
-) -> Result<(), KeepFault>
-    requires { (K.view keeper.old).ready }
-    ensures changes { Told K.view keeper.old (λ m. Adds batch.old batch.new result (kind_changes (at m) kind index.now row.0 event)) }
-    ensures err { OnErr result (batch.new ≡ batch.old) }
-    ensures shaped { KeepsShape batch.old batch.new result }
-    ensures reads { OnlyReads K.view keeper.old keeper.new result }
-    ensures at_most { LooksAtMost K.view keeper.old keeper.new no_looks }
-{
-    match kind {
-        IndexKind::Context => match note_in_context(alloc, keeper, batch, index, row, event) {
-            Ok(()) => Ok(()),
-            Err(ContextFault::Memory) => Err(KeepFault::Memory),
-            Err(ContextFault::Disk) => Err(KeepFault::Disk),
-            Err(ContextFault::TooMany) => unreachable!(),
-        },
-        IndexKind::Catalogue | IndexKind::Rules => Ok(()),
-    }
-}
-
-/// The changes of a row in each of the indexes, by their kinds.
-///
-/// A CONTEXT index takes one look-up, of the row's document, and none for a row that comes; no text and no posting is read. It never
-/// answers Full.
-pub fn row_notes<K: Keeper>(
-    alloc: Global,
-    keeper: &mut K,
-    indexes: &[(Name, IndexHead)],
-    row: RowKey,
-    event: RowEvent,
+    event: RowEvent<'_>,
 ) -> Result<Batch, KeepFault>
     requires { (K.view keeper.old).ready }
-    ensures changes { Finds K.view keeper.old result (λ m notes. notes ≡ spell (heads_changes (at m) row.0 event indexes.now)) }
+    ensures changes { Finds K.view keeper.old result (λ m notes. (c : RowChange) → IsToldBy event.entry false row.0 c → notes ≡ spell (context_changes index.now c.row c.old c.new (document_at (at m) index.now c.row))) }
     ensures shaped { IfOk result (AreShaped HasContextValue) }
     ensures reads { OnlyReads K.view keeper.old keeper.new result }
     ensures at_most { LooksAtMost K.view keeper.old keeper.new no_looks }
 {
     let mut notes = Batch::new(alloc);
-    for (index, head) in indexes {
-        note_row(alloc, keeper, &mut notes, index, head.kind, row, event)?;
+    match note_in_context(alloc, keeper, &mut notes, index, row, event) {
+        Ok(()) => Ok(notes),
+        Err(ContextFault::Memory) => Err(KeepFault::Memory),
+        Err(ContextFault::Disk) => Err(KeepFault::Disk),
+        Err(ContextFault::TooMany) => unreachable!(),
+    }
+}
+
+/// What a row with these values has in a catalogue.
+fn filing_of(
+    alloc: Global,
+    catalogue: &Catalogue,
+    places: &[Listed<usize>],
+    row: RowKey,
+    values: &[Value],
+) -> Result<Filing, Memory>
+    requires set { can_be_set catalogue.now.prefs.lexer ≡ true }
+    requires few { length places.now ≤ sub_index_limit }
+    requires each { list_all fit_sub_index places.now ≡ true }
+    ensures filing { IsShortOrNone (text_in_column values.now catalogue.now.target.column) → IfOk result (λ w. w ≡ filing_at catalogue.now.prefs catalogue.now.target.column places.now row.0 values.now) }
+    ensures fits { IfOk result IsFiling }
+{
+    row_filing(
+        alloc,
+        &catalogue.prefs,
+        catalogue.target.column,
+        places,
+        row,
+        values,
+    )
+}
+
+/// The changes of a row that comes to a catalogue with these values, or goes from it.
+fn filed_notes(
+    alloc: Global,
+    index: &Name,
+    catalogue: &Catalogue,
+    places: &[Listed<usize>],
+    row: RowKey,
+    values: &[Value],
+    there: bool,
+) -> Result<Batch, Memory>
+    requires set { can_be_set catalogue.now.prefs.lexer ≡ true }
+    requires few { length places.now ≤ sub_index_limit }
+    requires each { list_all fit_sub_index places.now ≡ true }
+    ensures changes { IsShortOrNone (text_in_column values.now catalogue.now.target.column) → IfOk result (λ notes. notes ≡ spell (filing_changes index.now row.0 (filing_at catalogue.now.prefs catalogue.now.target.column places.now row.0 values.now) there)) }
+    ensures shaped { IfOk result (AreShaped HasCatalogueValue) }
+{
+    let filing = filing_of(alloc, catalogue, places, row, values)?;
+    let mut notes = Batch::new(alloc);
+    if there {
+        row_comes(alloc, &mut notes, index, row, &filing)?;
+    } else {
+        row_goes(alloc, &mut notes, index, row, &filing)?;
+    }
+    Ok(notes)
+}
+
+/// The changes of a row in a catalogue that had the first values, and has the second.
+fn set_notes(
+    alloc: Global,
+    index: &Name,
+    catalogue: &Catalogue,
+    places: &[Listed<usize>],
+    row: RowKey,
+    old: &[Value],
+    new: &[Value],
+) -> Result<Batch, Memory>
+    requires set { can_be_set catalogue.now.prefs.lexer ≡ true }
+    requires few { length places.now ≤ sub_index_limit }
+    requires each { list_all fit_sub_index places.now ≡ true }
+    ensures changes { IsShortOrNone (text_in_column old.now catalogue.now.target.column) → IsShortOrNone (text_in_column new.now catalogue.now.target.column) → IfOk result (λ notes. notes ≡ spell (set_changes index.now row.0 (filing_at catalogue.now.prefs catalogue.now.target.column places.now row.0 old.now) (filing_at catalogue.now.prefs catalogue.now.target.column places.now row.0 new.now))) }
+    ensures shaped { IfOk result (AreShaped HasCatalogueValue) }
+{
+    let before = filing_of(alloc, catalogue, places, row, old)?;
+    let after = filing_of(alloc, catalogue, places, row, new)?;
+    let mut notes = Batch::new(alloc);
+    row_is_set(alloc, &mut notes, index, row, &before, &after)?;
+    Ok(notes)
+}
+
+/// The changes of a row in a catalogue.
+fn catalogue_notes(
+    alloc: Global,
+    index: &Name,
+    catalogue: &Catalogue,
+    places: &[Listed<usize>],
+    row: RowKey,
+    event: RowEvent<'_>,
+) -> Result<Batch, Memory>
+    requires set { can_be_set catalogue.now.prefs.lexer ≡ true }
+    requires few { length places.now ≤ sub_index_limit }
+    requires each { list_all fit_sub_index places.now ≡ true }
+    ensures changes { (f : Key → Option (List ℕ)) (c : RowChange) → IsToldBy event.entry true row.0 c → IfOk result (λ notes. notes ≡ spell (noted_changes f c index.now (noted_by (HeldCatalogue catalogue.now places.now)))) }
+    ensures shaped { IfOk result (AreShaped HasCatalogueValue) }
+{
+    match event {
+        RowEvent::Comes(new) => filed_notes(alloc, index, catalogue, places, row, new, true),
+        RowEvent::Changes(old, new) => set_notes(alloc, index, catalogue, places, row, old, new),
+        RowEvent::Goes(old) => filed_notes(alloc, index, catalogue, places, row, old, false),
+    }
+}
+
+/// The changes of a row in an index.
+fn index_notes<K: Keeper>(
+    alloc: Global,
+    keeper: &mut K,
+    index: &TableIndex,
+    row: RowKey,
+    event: RowEvent<'_>,
+) -> Result<Batch, KeepFault>
+    requires ready { (K.view keeper.old).ready }
+    requires can { CanTell index.now }
+    ensures changes { Finds K.view keeper.old result (λ m notes. (c : RowChange) → IsToldBy event.entry (needs_its_values (noted_by index.now.noting)) row.0 c → notes ≡ spell (noted_changes (at m) c index.now.name (noted_by index.now.noting))) }
+    ensures shaped { IfOk result (AreShaped HasIndexValue) }
+    ensures reads { OnlyReads K.view keeper.old keeper.new result }
+    ensures at_most { LooksAtMost K.view keeper.old keeper.new no_looks }
+{
+    match &index.noting {
+        Noting::InContext(_) => context_notes(alloc, keeper, &index.name, row, event),
+        Noting::InCatalogue(catalogue, places) => {
+            let places = places.as_slice();
+            let notes = catalogue_notes(alloc, &index.name, catalogue, places, row, event)?;
+            Ok(notes)
+        }
+    }
+}
+
+/// The changes of a row in each of these indexes.
+///
+/// A CONTEXT index takes one look-up, of the row's document, and none for a row that comes. A catalogue takes none: its changes are by the
+/// values that the event has, at the cost of reading the row's text. Where no index is a catalogue (`needs_values`), these values may be
+/// any. No text and no posting is looked up. It never answers Full.
+pub fn row_notes<K: Keeper>(
+    alloc: Global,
+    keeper: &mut K,
+    indexes: &[TableIndex],
+    row: RowKey,
+    event: RowEvent<'_>,
+) -> Result<Batch, KeepFault>
+    requires ready { (K.view keeper.old).ready }
+    requires can { AllCanTell indexes.now }
+    ensures changes { Finds K.view keeper.old result (λ m notes. (c : RowChange) → IsToldBy event.entry (any_needs_values indexes.now) row.0 c → notes ≡ spell (all_noted_changes (at m) c (noted_indexes indexes.now))) }
+    ensures shaped { IfOk result (AreShaped HasIndexValue) }
+    ensures reads { OnlyReads K.view keeper.old keeper.new result }
+    ensures at_most { LooksAtMost K.view keeper.old keeper.new no_looks }
+{
+    let mut notes = Batch::new(alloc);
+    let mut rest = indexes;
+    'each: while let Some((index, later)) = rest.split_first() {
+        let changes = index_notes(alloc, keeper, index, row, event)?;
+        notes.append(changes)?;
+        rest = later;
     }
     Ok(notes)
 }

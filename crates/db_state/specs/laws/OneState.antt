@@ -20,7 +20,7 @@ use Rattle.tx_prefs.specs.laws.Values.{one_preferences}
 use Rattle.th_store.specs.laws.Changes.{one_thesauri}
 use Rattle.db_state.specs.States.{StoreState}
 use Rattle.db_state.specs.Promises.{but_wasted, but_for_waste, OneState}
-use Rattle.ix_context.specs.laws.ContextCreates.{context_laws}
+use Rattle.ix_indexes.specs.laws.Indexes.{kinds_laws}
 
 -- ---- the values of a row
 
@@ -124,7 +124,7 @@ pub one_state : OneState
 one_state c m n first second =
     let tables = one_tables (at c) m.tables n.tables first.tables second.tables first.state.tables second.state.tables in
     state_is m n tables
-    (one_indexes kinds context_laws (at c) m.tables m.indexes n.indexes first.state.tables first.indexes
+    (one_indexes kinds kinds_laws (at c) m.tables m.indexes n.indexes first.state.tables first.indexes
     (subst (λ (ts : Tables). IndexesStand (at c) ts n.indexes) (sym tables) second.indexes) first.state.indexes
     (subst (λ (ts : Tables). AreIndexes ts n.indexes) (sym tables) second.state.indexes))
     (one_preferences (at c) m.preferences n.preferences first.preferences second.preferences first.state.preferences second.state.preferences)

@@ -52,7 +52,7 @@ returns-in-Refused-clause-rows g c = λ m k x holds stands there same.
     (c.in_ok-index.ensures.index m k holds stands) c.in-Some.is c.has_wrong_values-wrong_values.ensures c.label.ensures c.has_bad_number-out_of_range.ensures c.in_default-first_fault.ensures in
     let behind = reads_hold _ _ k c.in_ok-index.ensures.reads holds in
     let gives : GivesFound (search_refusal m.thesauri known.index (held_search c.args.search)) (search_rows m.tables m.thesauri known.index (held_search c.args.search)) (Refused c.in-Refused.line) =
-    subst (GivesFound (search_refusal m.thesauri known.index (held_search c.args.search)) (search_rows m.tables m.thesauri known.index (held_search c.args.search))) c.in-Refused.is (c.in_ok-found.ensures.found m k known.index behind stands known.there) in
+    subst (GivesFound (search_refusal m.thesauri known.index (held_search c.args.search)) (search_rows m.tables m.thesauri known.index (held_search c.args.search))) c.in-Refused.is (c.in_ok-found.ensures.found m k known.index behind stands known.there known.kind) in
     refused_search m c.args.table.now x c.args.list.now (held_search c.args.search) c.args.conds.now c.in-Some.index known gives.0 c.in-Refused.line gives.1.0 gives.1.1
 
 pub returns-clause-rows : goal.returns-clause-rows
@@ -62,7 +62,7 @@ returns-clause-rows g c = λ m k x holds stands there same.
     known_search m c.args.table.now x c.args.list.now (held_search c.args.search) c.args.conds.now c.args.columns.now same c.in-Some.index _ _ _ _ stands.state.tables stands.state.indexes there
     (c.in_ok-index.ensures.index m k holds stands) c.in-Some.is c.has_wrong_values-wrong_values.ensures c.label.ensures c.has_bad_number-out_of_range.ensures c.in_default-first_fault.ensures in
     let behind = reads_hold _ _ k c.in_ok-index.ensures.reads holds in
-    let gives = subst (GivesFound (search_refusal m.thesauri known.index s) (search_rows m.tables m.thesauri known.index s)) c.in-Rows.is (c.in_ok-found.ensures.found m k known.index behind stands known.there) in
+    let gives = subst (GivesFound (search_refusal m.thesauri known.index s) (search_rows m.tables m.thesauri known.index s)) c.in-Rows.is (c.in_ok-found.ensures.found m k known.index behind stands known.there known.kind) in
     let later = reads_hold _ _ k c.in_ok-found.ensures.reads behind in
     passed_search m c.args.table.now x c.args.list.now s c.args.conds.now c.in-Some.index known gives.0 c.in_ok-rows-in-Rows.rows
     (met_are x c.args.conds.now c.deref.result.now (hits_of c.in_ok-rows-in-Rows.rows.items) (search_rows m.tables m.thesauri known.index s) (ap hit_rows c.deref.ensures.value ∙ gives.1) (c.in_ok-rows-in-Rows.ensures.hits m k x later stands there same)
@@ -105,7 +105,7 @@ returns-in_err-found-clause-at_most g c = λ m k x holds stands there same.
     (c.in_ok-index.ensures.index m k holds stands) c.in-Some.is c.has_wrong_values-wrong_values.ensures c.label.ensures c.has_bad_number-out_of_range.ensures c.in_default-first_fault.ensures in
     rw (err_from_is_err_and c.from_residual-in_err-found.result c.from_residual-in_err-found.ensures.1).1
     (search_alone k m c.args.table.now x c.args.list.now (held_search c.args.search) c.args.conds.now c.looking_law.ensures c.in-Some.index known.index known.named _ _ _ _ _ known.effect (c.in_ok-index.ensures.at_most k holds)
-    (c.find.ensures.at_most m k known.index (reads_hold _ _ k c.in_ok-index.ensures.reads holds) stands known.there))
+    (c.find.ensures.at_most m k known.index (reads_hold _ _ k c.in_ok-index.ensures.reads holds) stands known.there known.kind))
 
 pub returns-in-Refused-clause-at_most : goal.returns-in-Refused-clause-at_most
 returns-in-Refused-clause-at_most g c = λ m k x holds stands there same.
@@ -113,7 +113,7 @@ returns-in-Refused-clause-at_most g c = λ m k x holds stands there same.
     known_search m c.args.table.now x c.args.list.now (held_search c.args.search) c.args.conds.now c.args.columns.now same c.in-Some.index _ _ _ _ stands.state.tables stands.state.indexes there
     (c.in_ok-index.ensures.index m k holds stands) c.in-Some.is c.has_wrong_values-wrong_values.ensures c.label.ensures c.has_bad_number-out_of_range.ensures c.in_default-first_fault.ensures in
     search_alone k m c.args.table.now x c.args.list.now (held_search c.args.search) c.args.conds.now c.looking_law.ensures c.in-Some.index known.index known.named _ _ _ _ _ known.effect (c.in_ok-index.ensures.at_most k holds)
-    (c.in_ok-found.ensures.at_most m k known.index (reads_hold _ _ k c.in_ok-index.ensures.reads holds) stands known.there)
+    (c.in_ok-found.ensures.at_most m k known.index (reads_hold _ _ k c.in_ok-index.ensures.reads holds) stands known.there known.kind)
 
 pub returns-in_err-shown-in-Rows-clause-at_most : goal.returns-in_err-shown-in-Rows-clause-at_most
 returns-in_err-shown-in-Rows-clause-at_most g c = λ m k x holds stands there same.
@@ -122,7 +122,7 @@ returns-in_err-shown-in-Rows-clause-at_most g c = λ m k x holds stands there sa
     (c.in_ok-index.ensures.index m k holds stands) c.in-Some.is c.has_wrong_values-wrong_values.ensures c.label.ensures c.has_bad_number-out_of_range.ensures c.in_default-first_fault.ensures in
     rw (err_from_is_err_and c.from_residual-in_err-shown-in-Rows.result c.from_residual-in_err-shown-in-Rows.ensures.1).1
     (search_alone k m c.args.table.now x c.args.list.now (held_search c.args.search) c.args.conds.now c.looking_law.ensures c.in-Some.index known.index known.named _ _ _ _ _ known.effect (c.in_ok-index.ensures.at_most k holds)
-    (c.in_ok-found.ensures.at_most m k known.index (reads_hold _ _ k c.in_ok-index.ensures.reads holds) stands known.there))
+    (c.in_ok-found.ensures.at_most m k known.index (reads_hold _ _ k c.in_ok-index.ensures.reads holds) stands known.there known.kind))
 
 pub returns-in_err-rows-in-Rows-clause-at_most : goal.returns-in_err-rows-in-Rows-clause-at_most
 returns-in_err-rows-in-Rows-clause-at_most g c = λ m k x holds stands there same.
@@ -131,14 +131,14 @@ returns-in_err-rows-in-Rows-clause-at_most g c = λ m k x holds stands there sam
     (c.in_ok-index.ensures.index m k holds stands) c.in-Some.is c.has_wrong_values-wrong_values.ensures c.label.ensures c.has_bad_number-out_of_range.ensures c.in_default-first_fault.ensures in
     let s = held_search c.args.search in
     let behind = reads_hold _ _ k c.in_ok-index.ensures.reads holds in
-    let gives = subst (GivesFound (search_refusal m.thesauri known.index s) (search_rows m.tables m.thesauri known.index s)) c.in-Rows.is (c.in_ok-found.ensures.found m k known.index behind stands known.there) in
+    let gives = subst (GivesFound (search_refusal m.thesauri known.index s) (search_rows m.tables m.thesauri known.index s)) c.in-Rows.is (c.in_ok-found.ensures.found m k known.index behind stands known.there known.kind) in
     let found = ap hit_rows c.deref.ensures.value ∙ gives.1 ∙ sym (ap (λ (i : Option Index). found_in m.tables m.thesauri i s) known.here) in
     let shown = c.in_ok-shown-in-Rows.ensures (few_columns m c.args.table.now x c.args.columns.now stands.state.tables there same) in
     let fewer = subst (λ (places : List ℕ). HasFewerLeft places (read_texts c.args.list.now c.args.conds.now c.args.columns.now)) (sym shown) (fewer_shown c.args.list.now c.args.conds.now c.args.columns.now) in
     rw (err_from_is_err_and c.from_residual-in_err-rows-in-Rows.result c.from_residual-in_err-rows-in-Rows.ensures.1).1
     (rows_met k m c.args.table.now x c.args.list.now s c.args.conds.now c.looking_law.ensures c.in-Some.index known.index known.named _ _ c.args.columns.now c.deref.result.now _ _ _ _ _ _
     (not_refused m c.args.table.now x c.args.list.now s c.args.conds.now c.in-Some.index known gives.0) same found refl
-    (c.in_ok-index.ensures.at_most k holds) (c.in_ok-found.ensures.at_most m k known.index behind stands known.there)
+    (c.in_ok-index.ensures.at_most k holds) (c.in_ok-found.ensures.at_most m k known.index behind stands known.there known.kind)
     (c.in_err-rows-in-Rows.ensures.once (read_texts c.args.list.now c.args.conds.now c.args.columns.now) fewer (conds_read c.args.list.now c.args.conds.now c.args.columns.now)))
 
 pub returns-clause-at_most : goal.returns-clause-at_most
@@ -148,13 +148,13 @@ returns-clause-at_most g c = λ m k x holds stands there same.
     (c.in_ok-index.ensures.index m k holds stands) c.in-Some.is c.has_wrong_values-wrong_values.ensures c.label.ensures c.has_bad_number-out_of_range.ensures c.in_default-first_fault.ensures in
     let s = held_search c.args.search in
     let behind = reads_hold _ _ k c.in_ok-index.ensures.reads holds in
-    let gives = subst (GivesFound (search_refusal m.thesauri known.index s) (search_rows m.tables m.thesauri known.index s)) c.in-Rows.is (c.in_ok-found.ensures.found m k known.index behind stands known.there) in
+    let gives = subst (GivesFound (search_refusal m.thesauri known.index s) (search_rows m.tables m.thesauri known.index s)) c.in-Rows.is (c.in_ok-found.ensures.found m k known.index behind stands known.there known.kind) in
     let found = ap hit_rows c.deref.ensures.value ∙ gives.1 ∙ sym (ap (λ (i : Option Index). found_in m.tables m.thesauri i s) known.here) in
     let shown = c.in_ok-shown-in-Rows.ensures (few_columns m c.args.table.now x c.args.columns.now stands.state.tables there same) in
     let fewer = subst (λ (places : List ℕ). HasFewerLeft places (read_texts c.args.list.now c.args.conds.now c.args.columns.now)) (sym shown) (fewer_shown c.args.list.now c.args.conds.now c.args.columns.now) in
     rows_met k m c.args.table.now x c.args.list.now s c.args.conds.now c.looking_law.ensures c.in-Some.index known.index known.named _ _ c.args.columns.now c.deref.result.now _ _ _ _ _ _
     (not_refused m c.args.table.now x c.args.list.now s c.args.conds.now c.in-Some.index known gives.0) same found (ap (λ (places : List ℕ). rows_left places c.in_ok-rows-in-Rows.rows.items) (sym shown))
-    (c.in_ok-index.ensures.at_most k holds) (c.in_ok-found.ensures.at_most m k known.index behind stands known.there)
+    (c.in_ok-index.ensures.at_most k holds) (c.in_ok-found.ensures.at_most m k known.index behind stands known.there known.kind)
     (c.in_ok-rows-in-Rows.ensures.once (read_texts c.args.list.now c.args.conds.now c.args.columns.now) fewer (conds_read c.args.list.now c.args.conds.now c.args.columns.now))
 
 -- ---- what was read

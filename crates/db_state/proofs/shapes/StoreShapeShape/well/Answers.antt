@@ -12,7 +12,7 @@ returns-then-branch c =
 pub returns-then-branch-2 : goal.returns-then-branch-2
 returns-then-branch-2 c =
     let parts = spelt_by (λ p. key p.0 p.1.now p.2.now) c.in_ok-kind.field-0 (c.in-Some.kind, c.in-Some._owner, c.in-Some.part) c.args.key.now c.in_ok-kind.ensures c.in-Some.is in
-    (λ yes_is. of_index c.args.key.now c.args.value.now c.in-Some._owner.now c.in-Some.part.now c.in-Some.kind parts (c.in_ok-is_context_shape.ensures.0 c.if-branch-2.true), λ entry. refl)
+    (λ yes_is. of_index c.args.key.now c.args.value.now c.in-Some._owner.now c.in-Some.part.now c.in-Some.kind parts (c.in_ok-is_index_shape.ensures.0 c.if-branch-2.true), λ entry. refl)
 
 pub returns-then-branch-3 : goal.returns-then-branch-3
 returns-then-branch-3 c =
@@ -25,6 +25,6 @@ returns c =
       λ holds. of_thesaurus c.args.key.now c.args.value.now c.in-Some._owner.now c.in-Some.part.now c.in-Some.kind parts (c.is_thesaurus_shape.ensures.0 holds),
       λ entry. c.is_thesaurus_shape.ensures.1 (thesaurus_alone c.args.key.now c.args.value.now c.in-Some._owner.now c.in-Some.part.now c.in-Some.kind parts
           (λ shape. false≢true (sym c.if-branch.false ∙ c.in_ok-is_table_shape.ensures.1 shape))
-          (λ shape. false≢true (sym c.if-branch-2.false ∙ c.in_ok-is_context_shape.ensures.1 shape))
+          (λ shape. false≢true (sym c.if-branch-2.false ∙ c.in_ok-is_index_shape.ensures.1 shape))
           (λ shape. false≢true (sym c.if-branch-3.false ∙ c.in_ok-is_pref_shape.ensures.1 shape)) entry),
     )
