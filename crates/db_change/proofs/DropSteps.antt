@@ -18,7 +18,8 @@ use Rattle.db_state.specs.States.{StoreState, StandsForState}
 use Rattle.db_state.specs.Effects.{Does, with_found}
 use Rattle.db_state.specs.laws.Heads.{store_heads, heads_stand}
 use Rattle.db_change.specs.Dropping.{DropsTable, drop_table, table_dropped, with_table_dropped}
-use Rattle.db_change.specs.laws.NewRows.{names_on, names_on_table}
+use Rattle.db_change.specs.Noting.{names_on}
+use Rattle.db_change.specs.laws.NewRows.{names_on_table}
 use Rattle.ix_indexes.specs.Removing.{remove_all_changes}
 
 -- the name of the first of the indexes that are left

@@ -1,11 +1,14 @@
 -- The changes of rows that go, and what DELETE does with them.
-use Rattle.std.proofs.Common.{◌≡◌, ℕ, ℤ, ◌+◌, ◌<◌, ◌≤◌, List, [], ◌∷◌, ◌++◌, length, map, take, get_or, Option, Some, None, sym, ap, subst, ◌∙◌, append-nil}
+use Rattle.std.proofs.Common.{◌≡◌, ℕ, ℤ, zero, suc, pos, ◌+◌, ◌<◌, ◌≤◌, true, List, [], ◌∷◌, ◌++◌, length, map, take, get_or, Option, Some, None, refl, sym, ap, subst, ◌∙◌, append-nil, inl, inr, arith}
+use Rattle.std.specs.Prelude.{is_some}
 use Rattle.std.specs.FinMap.{get}
 use Rattle.std.proofs.lemmas.List.{take_more, take_all, map-append, length-map}
+use Rattle.ct_base.specs.declared.lists.Value.{Value}
 use Rattle.ct_base.specs.declared.numbers.RowKey.{RowKey}
-use Rattle.ct_keep.specs.Content.{Content, after, changes_weight}
+use Rattle.ct_keep.specs.Content.{Content, after}
 use Rattle.ct_entry.specs.Keys.{Key, at}
 use Rattle.ct_entry.specs.Each.{each}
+use Rattle.ct_entry.specs.Lists.{IsIn}
 use Rattle.ct_entry.specs.laws.Each.{each-append}
 use Rattle.ct_entry.specs.Changes.{spell}
 use Rattle.ct_entry.specs.laws.Changes.{spell-append}
@@ -13,26 +16,25 @@ use Rattle.ct_entry.specs.Shapes.{AreShaped}
 use Rattle.ct_entry.specs.laws.Shapes.{are_shaped-append}
 use Rattle.st_parse.specs.declared.statements.Cond.{Cond}
 use Rattle.tb_table.specs.declared.columns.Column.{Column}
-use Rattle.tb_table.specs.Tables.{Table}
+use Rattle.tb_table.specs.Tables.{Table, row_in}
+use Rattle.tb_table.specs.Spelling.{delete_changes}
 use Rattle.tb_table.specs.Shapes.{HasTableValue}
-use Rattle.ix_context.specs.Shapes.{HasContextValue}
+use Rattle.cat_index.specs.Sees.{AreThere}
+use Rattle.ix_indexes.specs.Noting.{Noted, all_noted_changes}
+use Rattle.ix_indexes.specs.Shapes.{HasIndexValue}
 use Rattle.db_cond.specs.declared.faults.Fault.{Fault}
 use Rattle.db_cond.specs.Faults.{UnknownName}
 use Rattle.db_cond.specs.Refused.{refusal_of}
-use Rattle.db_names.specs.declared.heads.IndexHead.{IndexHead}
-use Rattle.db_names.specs.Findings.{AreIndexesOf}
-use Rattle.db_names.specs.laws.Heads.{indexes_of_read}
 use Rattle.db_rows.specs.Checking.{check_conds}
 use Rattle.db_rows.specs.Meeting.{meeting_keys}
 use Rattle.db_state.specs.States.{StoreState, StandsForState}
 use Rattle.db_state.specs.Effects.{Effect, Refused, Does, Checks, with_found}
-use Rattle.db_state.specs.laws.Heads.{store_heads, heads_stand}
 use Rattle.db_state.specs.Shapes.{AreStoreChanges, HasStoreValue}
 use Rattle.db_change.proofs.ShapeSteps.{row_and_notes, shaped_alone}
-use Rattle.db_change.specs.Deleting.{delete_from, delete_rows, gone_rows_changes, rows_deleted, without_rows}
-use Rattle.db_change.specs.laws.NewRows.{heads_on}
+use Rattle.db_change.specs.Noting.{noted_on}
+use Rattle.db_change.specs.Deleting.{AllDrop, delete_from, delete_rows, going, gone_rows_changes, rows_deleted, without_rows}
 use Rattle.db_change.specs.laws.MetRows.{met_apart, met_there}
-use Rattle.db_change.specs.laws.GoneRows.{gone_rows_stand, drops_weigh_nothing, rows_drop}
+use Rattle.db_change.specs.laws.GoneRows.{gone_rows_stand, delete_drops, drop-append, drop_spelt, notes_drop}
 
 -- ---- the changes of each of several, one after the other
 
@@ -64,16 +66,43 @@ row_made a b empty own notes new none changes noted is =
     ∙ ap (λ (ws : List (List ℕ × Option (List ℕ))). spell a ++ ws) noted
     ∙ sym (spell-append a b)
 
+-- those of a row that goes only take entries away
+pub row_drops : (f : Key → Option (List ℕ)) (t : List ℕ) (columns : List Column) (r : ℤ) (old : Option (List Value)) (es : List (List ℕ × Noted)) (empty own notes new : List (List ℕ × Option (List ℕ))) → empty ≡ []
+    → own ≡ empty ++ spell (delete_changes t columns r) → notes ≡ spell (all_noted_changes f (going r old) es) → new ≡ own ++ notes → AllDrop new
+row_drops f t columns r old es empty own notes new none changes noted is =
+    let a = delete_changes t columns r in
+    let b = all_noted_changes f (going r old) es in
+    subst AllDrop (sym (row_made a b empty own notes new none changes noted is)) (drop_spelt (a ++ b) (drop-append a b (delete_drops t columns r) (notes_drop f r old es)))
+
 pub row_shaped : (a : List (Key × Option (List ℕ))) (empty own notes new : List (List ℕ × Option (List ℕ))) → empty ≡ [] → own ≡ empty ++ spell a
-    → AreShaped HasTableValue (spell a) → AreShaped HasContextValue notes → new ≡ own ++ notes → AreStoreChanges new
+    → AreShaped HasTableValue (spell a) → AreShaped HasIndexValue notes → new ≡ own ++ notes → AreStoreChanges new
 row_shaped a empty own notes new none changes rows noted is = row_and_notes own new notes (shaped_alone HasTableValue empty own (spell a) none changes rows) is noted
 
 -- those of a row more
 pub changes_added : (batch more new ws : List (List ℕ × Option (List ℕ))) → more ≡ ws → new ≡ batch ++ more → new ≡ batch ++ ws
 changes_added batch more new ws are is = is ∙ ap (λ (b : List (List ℕ × Option (List ℕ))). batch ++ b) are
 
+pub changes_drop : (batch more new : List (List ℕ × Option (List ℕ))) → AllDrop batch → AllDrop more → new ≡ batch ++ more → AllDrop new
+changes_drop batch more new before one is = subst AllDrop (sym is) (drop-append batch more before one)
+
 pub changes_shaped : (batch more new : List (List ℕ × Option (List ℕ))) → AreStoreChanges batch → AreStoreChanges more → new ≡ batch ++ more → AreStoreChanges new
 changes_shaped batch more new before one is = subst AreStoreChanges (sym is) (are_shaped-append HasStoreValue batch more before one)
+
+-- ---- rows that are there
+
+pub there_at : (x : Table) (rows : List RowKey) (i : ℕ) → i < length rows → AreThere x rows → is_some (get x.rows (get_or rows i (record { 0 = pos 0 })).0) ≡ true
+there_at x [] i less there = absurd (omega (arith, less))
+there_at x (r ∷ rows) zero less there = there.0
+there_at x (r ∷ rows) (suc i) less there = there_at x rows i (omega (arith, less)) there.1
+
+-- those that a table has, as they are met
+are_there : (x : Table) (rows : List RowKey) → ((r : ℤ) → IsIn r (map (λ row. row.0) rows) → is_some (get x.rows r) ≡ true) → AreThere x rows
+are_there x [] there = tt
+are_there x (r ∷ rows) there = (there r.0 (inl refl), are_there x rows (λ s later. there s (inr later)))
+
+pub met_are_there : (m : StoreState) (t : List ℕ) (x : Table) (conds : List Cond) (rows : List RowKey) → get m.tables t ≡ Some x → map (λ row. row.0) rows ≡ meeting_keys x conds → AreThere x rows
+met_are_there m t x conds rows here met =
+    are_there x rows (λ r among. ap (λ (o : Option Table). is_some (row_in o r)) (sym here) ∙ met_there m.tables t x conds here r (subst (IsIn r) met among))
 
 -- ---- the statement
 
@@ -90,15 +119,14 @@ module _ (m : StoreState) (t : List ℕ) (conds : List Cond) where
     pub delete_refused : (fault : Fault) → ((done : Effect) → Checks (Some fault) (check_conds columns conds done) done) → delete_from m t conds ≡ Refused (refusal_of fault)
     delete_refused fault checks = delete_some ∙ checks (delete_rows m t (meeting_keys x conds))
 
-    module _ (c : Content) (stands : StandsForState c m) (found : List (List ℕ × IndexHead)) (are : AreIndexesOf (at c) t found) (rows : List RowKey) (met : map (λ row. row.0) rows ≡ meeting_keys x conds)
-        (batch : List (List ℕ × Option (List ℕ))) (changes : batch ≡ spell (gone_rows_changes (at c) t columns found (map (λ row. row.0) rows))) where
-      batch_is : batch ≡ spell (gone_rows_changes (at c) t x.columns (heads_on m.indexes t) (meeting_keys x conds))
+    module _ (c : Content) (stands : StandsForState c m) (es : List (List ℕ × Noted)) (noted : es ≡ noted_on m.indexes t) (rows : List RowKey) (met : map (λ row. row.0) rows ≡ meeting_keys x conds)
+        (batch : List (List ℕ × Option (List ℕ))) (changes : batch ≡ spell (gone_rows_changes (at c) m.tables t columns es (map (λ row. row.0) rows))) where
+      batch_is : batch ≡ spell (gone_rows_changes (at c) m.tables t x.columns (noted_on m.indexes t) (meeting_keys x conds))
       batch_is =
           changes
-          ∙ ap (λ (cs : List Column). spell (gone_rows_changes (at c) t cs found (map (λ (row : RowKey). row.0) rows))) (sym same)
-          ∙ ap (λ (es : List (List ℕ × IndexHead)). spell (gone_rows_changes (at c) t x.columns es (map (λ (row : RowKey). row.0) rows)))
-          (indexes_of_read (at c) (store_heads m.indexes) (heads_stand (at c) m.tables m.indexes stands.state.tables stands.state.indexes stands.indexes) t found are)
-          ∙ ap (λ (rs : List ℤ). spell (gone_rows_changes (at c) t x.columns (heads_on m.indexes t) rs)) met
+          ∙ ap (λ (cs : List Column). spell (gone_rows_changes (at c) m.tables t cs es (map (λ (row : RowKey). row.0) rows))) (sym same)
+          ∙ ap (λ (es : List (List ℕ × Noted)). spell (gone_rows_changes (at c) m.tables t x.columns es (map (λ (row : RowKey). row.0) rows))) noted
+          ∙ ap (λ (rs : List ℤ). spell (gone_rows_changes (at c) m.tables t x.columns (noted_on m.indexes t) rs)) met
 
       pub delete_done : (count : ℕ) → count ≡ length rows → ((done : Effect) → Checks None (check_conds columns conds done) done)
           → (n : StoreState) × (delete_from m t conds ≡ Does n (rows_deleted count)) × StandsForState (after batch c) n
@@ -110,16 +138,3 @@ module _ (m : StoreState) (t : List ℕ) (conds : List Cond) where
         subst (λ (ws : List (List ℕ × Option (List ℕ))). StandsForState (after ws c) (without_rows m t (meeting_keys x conds))) (sym batch_is)
             (gone_rows_stand c m t x (meeting_keys x conds) stands here (met_apart x conds) (met_there m.tables t x conds here)),
       )
-
--- the same changes by equal lists
-pub same_changes : (f : Key → Option (List ℕ)) (t : List ℕ) (cs ds : List Column) (es fs : List (List ℕ × IndexHead)) (rs ss : List RowKey) → cs ≡ ds → es ≡ fs → rs ≡ ss
-    → spell (gone_rows_changes f t cs es (map (λ row. row.0) rs)) ≡ spell (gone_rows_changes f t ds fs (map (λ row. row.0) ss))
-same_changes f t cs ds es fs rs ss columns indexes rows =
-    ap (λ (l : List Column). spell (gone_rows_changes f t l es (map (λ (row : RowKey). row.0) rs))) columns
-    ∙ ap (λ (l : List (List ℕ × IndexHead)). spell (gone_rows_changes f t ds l (map (λ (row : RowKey). row.0) rs))) indexes
-    ∙ ap (λ (l : List RowKey). spell (gone_rows_changes f t ds fs (map (λ row. row.0) l))) rows
-
--- they weigh nothing
-pub deletes_weigh_nothing : (c : Content) (t : List ℕ) (columns : List Column) (es : List (List ℕ × IndexHead)) (rows : List ℤ) (batch : List (List ℕ × Option (List ℕ)))
-    → batch ≡ spell (gone_rows_changes (at c) t columns es rows) → changes_weight batch ≡ 0
-deletes_weigh_nothing c t columns es rows batch is = ap changes_weight is ∙ drops_weigh_nothing (gone_rows_changes (at c) t columns es rows) (rows_drop (at c) t columns es rows)

@@ -1,6 +1,7 @@
 pub mod InsertSteps
 pub mod KeptValues
 pub mod NewValues
+pub mod NoteSteps
 pub mod ReadTables
 pub mod RowSteps
 pub mod TableSteps

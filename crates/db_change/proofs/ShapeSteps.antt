@@ -13,7 +13,7 @@ use Rattle.st_parse.specs.declared.statements.Whole.TheVariants.{Fits, Beyond}
 use Rattle.tb_table.specs.declared.columns.Column.{Column}
 use Rattle.ct_entry.specs.laws.Shapes.{are_shaped-append, are_shaped_weaker}
 use Rattle.tb_table.specs.Shapes.{HasShortText, HasTableValue, HaveShortTexts}
-use Rattle.ix_context.specs.Shapes.{HasContextValue}
+use Rattle.ix_indexes.specs.Shapes.{HasIndexValue}
 use Rattle.db_state.specs.Shapes.{AreStoreChanges, HasStoreValue}
 use Rattle.tb_table.specs.Tables.{texts_from, texts_of}
 use Rattle.db_state.specs.Effects.{Effect, Refused}
@@ -75,7 +75,7 @@ few_numbers (Number Beyond ∷ vs) = let rest = few_numbers vs in omega (arith, 
 
 texts_short : (column : ℕ) (vs : List Operand) → All IsShortValue vs → HaveShortTexts (texts_from column (map kept_value vs))
 texts_short column [] all = All-nil HasShortText
-texts_short column (Text text ∷ vs) all = All-cons HasShortText (column, text) (texts_from (suc column) (map kept_value vs)) (All-head IsShortValue (Text text) vs all) (texts_short (suc column) vs (All-tail IsShortValue (Text text) vs all))
+texts_short column (Text text ∷ vs) all = All-cons HasShortText (column, text) (texts_from (suc column) (map kept_value vs)) (let short = All-head IsShortValue (Text text) vs all in omega (arith, short)) (texts_short (suc column) vs (All-tail IsShortValue (Text text) vs all))
 texts_short column (Number (Fits n) ∷ vs) all = texts_short (suc column) vs (All-tail IsShortValue (Number (Fits n)) vs all)
 texts_short column (Number Beyond ∷ vs) all = texts_short (suc column) vs (All-tail IsShortValue (Number Beyond) vs all)
 
@@ -91,11 +91,11 @@ shaped_alone rule none new ws empty is are = subst (AreShaped rule) (sym (is ∙
 
 -- ---- plans
 
--- changes of a row, and those that it waits in indexes, are ones that a store takes
-pub row_and_notes : (row new notes : List (List ℕ × Option (List ℕ))) → AreShaped HasTableValue row → new ≡ row ++ notes → AreShaped HasContextValue notes → AreStoreChanges new
-row_and_notes row new notes rows is waits =
+-- changes of a row, and what indexes are told of it, are ones that a store takes
+pub row_and_notes : (row new notes : List (List ℕ × Option (List ℕ))) → AreShaped HasTableValue row → new ≡ row ++ notes → AreShaped HasIndexValue notes → AreStoreChanges new
+row_and_notes row new notes rows is told =
     subst AreStoreChanges (sym is)
-    (are_shaped-append HasStoreValue row notes (are_shaped_weaker HasTableValue HasStoreValue (λ k value has. inl has) row rows) (are_shaped_weaker HasContextValue HasStoreValue (λ k value has. inr (inl has)) notes waits))
+    (are_shaped-append HasStoreValue row notes (are_shaped_weaker HasTableValue HasStoreValue (λ k value has. inl has) row rows) (are_shaped_weaker HasIndexValue HasStoreValue (λ k value has. inr (inl has)) notes told))
 
 -- so are those of a table
 pub of_tables : (changes : List (List ℕ × Option (List ℕ))) → AreShaped HasTableValue changes → AreStoreChanges changes

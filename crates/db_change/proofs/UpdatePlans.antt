@@ -24,9 +24,10 @@ use Rattle.db_state.specs.laws.Chains.{passed}
 use Rattle.db_state.specs.Plans.{IsPlan}
 use Rattle.db_state.specs.declared.plans.Plan.TheVariants.{Done}
 use Rattle.db_change.specs.Inserting.{is_of_sort, is_too_long}
-use Rattle.db_change.specs.Updating.{assign_columns, sets_key, has_twice, of_its_sort, places_set, check_update, with_updates, rows_updated, update_rows, update, indexes_set, update_changes, IsKeptAssign}
+use Rattle.ix_indexes.specs.Noting.{Noted, noted_named}
+use Rattle.db_change.specs.Updating.{assign_columns, sets_key, has_twice, of_its_sort, places_set, check_update, with_updates, rows_updated, update_rows, update, indexes_set, update_changes, IsKeptAssign, UpdatesTable}
 use Rattle.db_change.specs.laws.SetValues.{SetFits, others_fit_set}
-use Rattle.db_change.specs.laws.SetIndexes.{named_on_columns, own_heads_set}
+use Rattle.db_change.specs.laws.SetIndexes.{named_on_columns, names_set, noted_on_columns}
 use Rattle.db_change.specs.laws.ChangedRows.{changed_rows_stand}
 use Rattle.db_change.specs.laws.MetRows.{met_apart, met_there}
 use Rattle.db_change.proofs.AssignSteps.{set_values_fit}
@@ -63,19 +64,23 @@ module _ (m : StoreState) (t : List ℕ) (assigns : List Assign) (conds : List C
 
     pub update_made : (k : Content) → StandsForState k m → ((done : Effect) → check_update columns assigns conds done ≡ done)
         → All IsKeptAssign assigns → (rows : List ℤ) → rows ≡ meeting_keys x conds → (count : ℕ) → count ≡ length rows
-        → (batch : List (List ℕ × Option (List ℕ))) → batch ≡ spell (update_changes k m t (others columns) assigns (indexes_set m t columns assigns) rows) → IsPlan (update m t assigns conds) (rows_updated count) k (Done batch)
+        → (batch : List (List ℕ × Option (List ℕ))) → UpdatesTable k m t columns assigns rows batch → IsPlan (update m t assigns conds) (rows_updated count) k (Done batch)
     update_made k stands checks kept rows rows_are count counted batch batch_is = (
       with_updates m t x.columns assigns (meeting_keys x conds),
       update_some ∙ checks (update_rows m t x.columns assigns (meeting_keys x conds)) ∙ ap (λ (n : ℕ). Does (with_updates m t x.columns assigns (meeting_keys x conds)) (rows_updated n)) (sym (counted ∙ ap (λ (rs : List ℤ). length rs) rows_are)),
       subst (λ (ws : List (List ℕ × Option (List ℕ))). StandsForState (after ws k) (with_updates m t x.columns assigns (meeting_keys x conds))) (sym whole)
-          (changed_rows_stand k m t x assigns (indexes_set m t x.columns assigns) stands here fits (own_heads_set (places_set x.columns assigns) m.indexes t) (named_on_columns (places_set x.columns assigns) m.indexes t) (meeting_keys x conds) (met_apart x conds) (met_there m.tables t x conds here)),
+          (changed_rows_stand k m t x assigns names stands here fits (named_on_columns (places_set x.columns assigns) m.indexes t) (meeting_keys x conds) (met_apart x conds) (met_there m.tables t x conds here)),
     )
       where
-        whole : batch ≡ spell (update_changes k m t (others x.columns) assigns (indexes_set m t x.columns assigns) (meeting_keys x conds))
+        names : List (List ℕ)
+        names = names_set (places_set x.columns assigns) m.indexes t
+
+        whole : batch ≡ spell (update_changes k m t (others x.columns) assigns (noted_named m.indexes names) (meeting_keys x conds))
         whole =
             batch_is
             ∙ ap (λ (rs : List ℤ). spell (update_changes k m t (others columns) assigns (indexes_set m t columns assigns) rs)) rows_are
             ∙ ap (λ (cs : List Column). spell (update_changes k m t (others cs) assigns (indexes_set m t cs assigns) (meeting_keys x conds))) (sym columns_are)
+            ∙ ap (λ (es : List (List ℕ × Noted)). spell (update_changes k m t (others x.columns) assigns es (meeting_keys x conds))) (noted_on_columns (places_set x.columns assigns) m.indexes t)
 
         fits : SetFits assigns (others x.columns)
         fits =

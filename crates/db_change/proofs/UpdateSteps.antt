@@ -17,6 +17,7 @@ use Rattle.st_parse.specs.declared.statements.Assign.{Assign}
 use Rattle.st_parse.specs.declared.statements.Operand.{Operand}
 use Rattle.st_parse.specs.declared.statements.Operand.TheVariants.{Text, Number}
 use Rattle.tb_table.specs.declared.columns.Column.{Column}
+use Rattle.tb_table.specs.Rules.{others}
 use Rattle.tb_table.specs.Shapes.{HasShortText, HaveShortTexts, text_entry_limit}
 use Rattle.db_change.specs.Inserting.{text_value, IsShortValue}
 use Rattle.db_change.specs.Updating.{set_in, number_set, with_set, numbers_after, texts_set, IsShortAssign}
@@ -86,6 +87,11 @@ few_after columns assigns numbers new few is =
     let b = set_few columns assigns in
     omega (arith, same, a, b, few)
 
+-- the columns behind the key are no more than all
+pub few_others : (columns behind : List Column) → behind ≡ others columns → length columns ≤ column_limit → length behind ≤ column_limit
+few_others [] behind is few = let same = ap (λ (cs : List Column). length cs) is in omega (arith, same)
+few_others (c ∷ columns) behind is few = let same = ap (λ (cs : List Column). length cs) is in omega (arith, same, few)
+
 -- ---- texts that are short enough
 
 short_in : (name : List ℕ) (assigns : List Assign) → All IsShortAssign assigns → (text : List ℕ) → option_and_then text_value (set_in assigns name) ≡ Some text → length text ≤ text_entry_limit
@@ -93,7 +99,7 @@ short_in name [] all text is = cc
 short_in name (a ∷ assigns) all text is = one (same_list name a.column) (short_in name assigns (All-tail IsShortAssign a assigns all) text) is
   where
     value : (v : Operand) → IsShortValue v → text_value v ≡ Some text → length text ≤ text_entry_limit
-    value (Text t) short is = let same : t ≡ text = cc in subst (λ (u : List ℕ). length u ≤ text_entry_limit) same short
+    value (Text t) short is = let same : t ≡ text = cc in subst (λ (u : List ℕ). length u ≤ text_entry_limit) same (omega (arith, short))
     value (Number n) short is = cc
 
     one : (b : Bool) → (option_and_then text_value (set_in assigns name) ≡ Some text → length text ≤ text_entry_limit)

@@ -1,22 +1,25 @@
 -- What DELETE does.
-use Rattle.std.specs.Prelude.{ℕ, ℤ, List, [], ◌∷◌, ◌++◌, length, Option, codes, ◌≡◌, refl}
+use Rattle.std.specs.Prelude.{ℕ, ℤ, false, List, [], ◌∷◌, ◌++◌, length, Option, Some, None, codes, ◌≡◌, refl}
 use Rattle.std.specs.FinMap.{get}
+use Rattle.ct_base.specs.declared.lists.Value.{Value}
 use Rattle.st_parse.specs.declared.statements.Cond.{Cond}
 use Rattle.ct_entry.specs.Changes.{spell}
 use Rattle.ct_entry.specs.Each.{each}
-use Rattle.ct_entry.specs.Keys.{Key}
+use Rattle.ct_entry.specs.Keys.{Key, at}
+use Rattle.ct_keep.specs.Content.{Content}
 use Rattle.tb_table.specs.declared.columns.Column.{Column}
-use Rattle.tb_table.specs.declared.columns.Target.{Target}
-use Rattle.tb_table.specs.Tables.{Table, without_row}
+use Rattle.tb_table.specs.Tables.{Table, Tables, row_at, without_row}
 use Rattle.tb_table.specs.Spelling.{delete_changes}
 use Rattle.ix_docmap.specs.Changes.{gone_changes}
 use Rattle.ix_docmap.specs.Readings.{document_at}
+use Rattle.ix_kinds.specs.Rows.{RowChange}
+use Rattle.ix_kinds.specs.Indextypes.{IndexOf}
 use Rattle.ix_kinds.specs.Statements.{tables_after, every, indexes_after}
-use Rattle.ix_indexes.specs.declared.noting.RowEvent.TheVariants.{Goes}
+use Rattle.cat_index.specs.Catalogues.{CatalogueBody, filing}
+use Rattle.cat_index.specs.Changes.{filing_changes}
 use Rattle.ix_indexes.specs.Indexes.{kinds}
-use Rattle.ix_indexes.specs.Noting.{heads_changes}
-use Rattle.db_names.specs.declared.heads.IndexKind.TheVariants.{Context}
-use Rattle.db_names.specs.declared.heads.IndexHead.{IndexHead}
+use Rattle.ix_indexes.specs.declared.loading.TableIndex.{TableIndex}
+use Rattle.ix_indexes.specs.Noting.{Noted, InContext, InCatalogue, all_noted_changes, noted_changes, noted_indexes}
 use Rattle.db_cond.specs.Faults.{UnknownName}
 use Rattle.db_cond.specs.Lines.{rows_line}
 use Rattle.db_rows.specs.Checking.{check_conds}
@@ -43,25 +46,41 @@ delete_from m t conds = with_found (get m.tables t) (UnknownName t) (λ (x : Tab
 
 -- ---- what it puts into its batch
 
--- a row goes from its table, and from each of the indexes with these heads, as their kinds have it by the entries before
-abbrev pub gone_row_changes : (Key → Option (List ℕ)) → List ℕ → List Column → List (List ℕ × IndexHead) → ℤ → List (Key × Option (List ℕ))
-gone_row_changes f t columns indexes r = delete_changes t columns r ++ heads_changes f r Goes indexes
+-- a row that goes, by what it was
+abbrev pub going : ℤ → Option (List Value) → RowChange
+going r old = record { row = r; old = old; new = None }
 
-abbrev pub gone_rows_changes : (Key → Option (List ℕ)) → List ℕ → List Column → List (List ℕ × IndexHead) → List ℤ → List (Key × Option (List ℕ))
-gone_rows_changes f t columns indexes rows = each (gone_row_changes f t columns indexes) rows
+-- it goes from its table, and from each of these indexes, as their kinds have it by the entries before
+abbrev pub gone_row_changes : (Key → Option (List ℕ)) → Tables → List ℕ → List Column → List (List ℕ × Noted) → ℤ → List (Key × Option (List ℕ))
+gone_row_changes f ts t columns indexes r = delete_changes t columns r ++ all_noted_changes f (going r (row_at ts t r)) indexes
 
--- The batch takes these rows from a table with these columns, and from each of these indexes.
-abbrev pub TakesRows : (Key → Option (List ℕ)) → List ℕ → List Column → List (List ℕ × IndexHead) → List ℤ → List (List ℕ × Option (List ℕ)) → Type 0
-TakesRows f t columns indexes rows batch = batch ≡ spell (gone_rows_changes f t columns indexes rows)
+abbrev pub gone_rows_changes : (Key → Option (List ℕ)) → Tables → List ℕ → List Column → List (List ℕ × Noted) → List ℤ → List (Key × Option (List ℕ))
+gone_rows_changes f ts t columns indexes rows = each (gone_row_changes f ts t columns indexes) rows
+
+-- The batch takes this row from a table with these columns, and from each of these indexes.
+abbrev pub TakesRow : StoreState → Content → List ℕ → List Column → List TableIndex → ℤ → List (List ℕ × Option (List ℕ)) → Type 0
+TakesRow m c t columns indexes r batch = batch ≡ spell (gone_row_changes (at c) m.tables t columns (noted_indexes indexes) r)
+
+-- The same of each of these rows.
+abbrev pub TakesRows : StoreState → Content → List ℕ → List Column → List TableIndex → List ℤ → List (List ℕ × Option (List ℕ)) → Type 0
+TakesRows m c t columns indexes rows batch = batch ≡ spell (gone_rows_changes (at c) m.tables t columns (noted_indexes indexes) rows)
+
+-- Each change takes an entry away.
+abbrev pub AllDrop : {A : Type 0} → List (A × Option (List ℕ)) → Type 0
+AllDrop [] = Unit {0}
+AllDrop (w ∷ ws) = (w.1 ≡ None) × AllDrop ws
 
 -- computed examples: where no row meets the conditions, nothing is changed
 nothing_to_delete : (m : StoreState) (t : List ℕ) → without_rows m t [] ≡ m
 nothing_to_delete m t = refl
 
-no_changes : (f : Key → Option (List ℕ)) (t : List ℕ) (columns : List Column) (indexes : List (List ℕ × IndexHead)) → gone_rows_changes f t columns indexes [] ≡ []
-no_changes f t columns indexes = refl
+no_changes : (f : Key → Option (List ℕ)) (ts : Tables) (t : List ℕ) (columns : List Column) (indexes : List (List ℕ × Noted)) → gone_rows_changes f ts t columns indexes [] ≡ []
+no_changes f ts t columns indexes = refl
 
--- a row goes from a CONTEXT index where it is the document that the entries before name, or waits
-one_row_of_an_index : (f : Key → Option (List ℕ)) (t : List ℕ) (columns : List Column) (i : List ℕ) (target : Target) (r : ℤ)
-    → gone_row_changes f t columns ((i, record { kind = Context; target = target }) ∷ []) r ≡ delete_changes t columns r ++ (gone_changes i r (document_at f i r) ++ [])
-one_row_of_an_index f t columns i target r = refl
+-- a row goes from a CONTEXT index where it is the document that the entries before name, or waits; and from a catalogue by its values
+from_an_index : (f : Key → Option (List ℕ)) (i : List ℕ) (column : ℕ) (r : ℤ) (vs : List Value) → noted_changes f (going r (Some vs)) i (InContext column) ≡ gone_changes i r (document_at f i r)
+from_an_index f i column r vs = refl
+
+from_a_catalogue : (f : Key → Option (List ℕ)) (i : List ℕ) (x : IndexOf CatalogueBody) (r : ℤ) (vs : List Value)
+    → noted_changes f (going r (Some vs)) i (InCatalogue x) ≡ filing_changes i r (filing x r vs) false
+from_a_catalogue f i x r vs = refl

@@ -1,5 +1,5 @@
 -- What INSERT does.
-use Rattle.std.specs.Prelude.{◌≡◌, Result, IfOk, ℕ, ℤ, pos, ◌≤◌, ◌==◌, nat_le, nat_lt, Bool, true, false, not, ◌||◌, ◌&&◌, is_some, List, [], ◌∷◌, length, map, Option, Some, None, codes, FitsSigned, refl}
+use Rattle.std.specs.Prelude.{◌≡◌, Result, IfOk, ℕ, ℤ, pos, ◌≤◌, ◌^◌, ◌==◌, nat_le, nat_lt, Bool, true, false, not, ◌||◌, ◌&&◌, is_some, List, [], ◌∷◌, length, map, Option, Some, None, codes, FitsSigned, refl}
 use Rattle.std.specs.Int.{w64}
 use Rattle.std.specs.Str.{IsUtf8}
 use Rattle.std.specs.Bool.{if◌then◌else◌}
@@ -14,10 +14,9 @@ use Rattle.st_parse.specs.declared.statements.Whole.TheVariants.{Fits, Beyond}
 use Rattle.tb_table.specs.declared.columns.Sort.{Sort}
 use Rattle.tb_table.specs.declared.columns.Sort.TheVariants.{Number as NumberSort, Varchar2, Clob}
 use Rattle.tb_table.specs.declared.columns.Column.{Column}
-use Rattle.tb_table.specs.Shapes.{text_entry_limit}
 use Rattle.tb_table.specs.Tables.{Table, numbers_of, texts_of, with_row}
 use Rattle.ct_base.specs.Limits.{row_limit, text_limit}
-use Rattle.ix_kinds.specs.Rows.{row_change}
+use Rattle.ix_kinds.specs.Rows.{RowChange, row_change}
 use Rattle.ix_kinds.specs.Statements.{every, indexes_after_row}
 use Rattle.ix_indexes.specs.Indexes.{kinds}
 use Rattle.db_cond.specs.Faults.{UnknownName, WrongValues, KeyExists, ValueTooLong, OutOfRange, LimitReached}
@@ -128,9 +127,9 @@ abbrev pub IsTextKept : Operand → Type 0
 IsTextKept (Text text) = IsUtf8 text
 IsTextKept (Number n) = Unit {0}
 
--- a text is one that an entry may have
+-- a text is one that an entry may have, and that can be read
 abbrev pub IsShortValue : Operand → Type 0
-IsShortValue (Text text) = length text ≤ text_entry_limit
+IsShortValue (Text text) = length text ≤ 2 ^ 19
 IsShortValue (Number n) = Unit {0}
 
 -- ---- the statement
@@ -190,6 +189,10 @@ insert_into m t names values =
 abbrev pub inserted_row_changes : List ℕ → ℤ → List Operand → List (Key × Option (List ℕ))
 inserted_row_changes t r values = insert_changes t r (numbers_of (map kept_value values)) (texts_of (map kept_value values))
 
+-- a row that comes, with these values
+abbrev pub coming : ℤ → List Value → RowChange
+coming r vs = record { row = r; old = None; new = Some vs }
+
 -- a batch that makes of the content one that stands for the state with the new row
 abbrev pub MakesRow : StoreState → Content → List ℕ → ℤ → List Operand → List (List ℕ × Option (List ℕ)) → Type 0
 MakesRow m c t r values batch = StandsForState (after batch c) (with_new_row m t r (others_kept values))
@@ -244,6 +247,9 @@ a_good_row done = refl
 -- a key out of range is no key that could be taken
 key_beyond : (done : Effect) → check_row_values true false title_columns (beyond ∷ Text (codes "fox") ∷ one ∷ []) done ≡ Refused OutOfRange
 key_beyond done = refl
+
+it_comes : coming (pos 1) (others_kept (one ∷ Text (codes "fox") ∷ one ∷ [])) ≡ record { row = pos 1; old = None; new = Some (TextValue (codes "fox") ∷ NumberValue (pos 1) ∷ []) }
+it_comes = refl
 
 kept : others_kept (one ∷ Text (codes "fox") ∷ one ∷ []) ≡ TextValue (codes "fox") ∷ NumberValue (pos 1) ∷ []
 kept = refl

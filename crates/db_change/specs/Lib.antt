@@ -1,3 +1,4 @@
+pub mod Noting
 pub mod Creating
 pub mod Inserting
 pub mod Deleting

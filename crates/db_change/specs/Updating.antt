@@ -1,5 +1,5 @@
 -- What UPDATE does.
-use Rattle.std.specs.Prelude.{ℕ, ℤ, suc, pos, ◌≡◌, Bool, true, false, not, ◌||◌, List, [], ◌∷◌, ◌++◌, length, map, filter, Option, Some, None, codes, refl}
+use Rattle.std.specs.Prelude.{ℕ, ℤ, suc, pos, ◌≡◌, Bool, true, false, not, ◌||◌, List, [], ◌∷◌, ◌++◌, length, map, Option, Some, None, codes, refl}
 use Rattle.std.specs.Bool.{if◌then◌else◌}
 use Rattle.std.specs.List.{list_any, list_all, filter_map, cons_option}
 use Rattle.std.specs.Option.{option_map, option_and_then, unwrap_or}
@@ -19,24 +19,22 @@ use Rattle.tb_table.specs.declared.columns.Sort.{Sort}
 use Rattle.tb_table.specs.declared.columns.Sort.TheVariants.{Number as NumberSort, Varchar2, Clob}
 use Rattle.tb_table.specs.declared.columns.Column.{Column}
 use Rattle.tb_table.specs.Rules.{others}
-use Rattle.tb_table.specs.Tables.{Table, Tables, numbers_of, with_row}
+use Rattle.tb_table.specs.Tables.{Table, Tables, numbers_of, row_at, with_row}
 use Rattle.tb_table.specs.Spelling.{insert_changes}
+use Rattle.ix_kinds.specs.Rows.{RowChange}
 use Rattle.ix_kinds.specs.Statements.{tables_after, looks_at_any, indexes_after}
-use Rattle.ix_kinds.specs.RowSteps.{is_column}
-use Rattle.ix_indexes.specs.declared.noting.RowEvent.TheVariants.{Changes}
 use Rattle.ix_indexes.specs.Indexes.{kinds}
-use Rattle.ix_indexes.specs.Noting.{heads_changes}
-use Rattle.db_names.specs.declared.heads.IndexHead.{IndexHead}
-use Rattle.db_names.specs.Promises.{heads_of}
-use Rattle.db_state.specs.laws.Heads.{store_heads}
+use Rattle.ix_indexes.specs.declared.loading.TableIndex.{TableIndex}
+use Rattle.ix_indexes.specs.Noting.{Noted, all_noted_changes, noted_indexes}
 use Rattle.db_cond.specs.Faults.{UnknownName, WrongValues, ValueTooLong, OutOfRange}
 use Rattle.db_cond.specs.Lines.{rows_line}
 use Rattle.db_rows.specs.Checking.{cond_columns, fit_columns, has_beyond, sort_of, is_beyond_operand}
 use Rattle.db_rows.specs.Meeting.{meeting_keys}
-use Rattle.db_rows.specs.Values.{row_values}
+use Rattle.db_rows.specs.Values.{row_values, values_behind_key}
 use Rattle.db_state.specs.Columns.{first_unknown, column_place}
 use Rattle.db_state.specs.States.{StoreState}
 use Rattle.db_state.specs.Effects.{Effect, Does, Refused, refuse, refuse_by, with_found}
+use Rattle.db_change.specs.Noting.{noted_on, noted_set}
 use Rattle.db_change.specs.Inserting.{is_of_sort, is_too_long, kept_value, number_value, text_value, IsNumberKept, IsTextKept, IsShortValue}
 
 -- ---- the values that are set
@@ -151,36 +149,42 @@ abbrev pub texts_set : ℕ → List Column → List Assign → List (ℕ × List
 texts_set place [] assigns = []
 texts_set place (c ∷ columns) assigns = cons_option (option_map (λ text. (place, text)) (option_and_then text_value (set_in assigns c.name))) (texts_set (suc place) columns assigns)
 
--- the indexes on columns that are set
-abbrev pub heads_set : List ℕ → List (List ℕ × IndexHead) → List (List ℕ × IndexHead)
-heads_set places heads = filter (λ e. is_column places e.1.target.column) heads
-
-abbrev pub indexes_set : StoreState → List ℕ → List Column → List Assign → List (List ℕ × IndexHead)
-indexes_set m t columns assigns = heads_set (places_set columns assigns) (heads_of t (store_heads m.indexes))
-
 -- a row with these numbers before gets those and the texts that are set; the columns are those behind the key
 abbrev pub value_changes : List ℕ → List Column → List Assign → List ℤ → ℤ → List (Key × Option (List ℕ))
 value_changes t columns assigns numbers r = insert_changes t r (numbers_after columns assigns numbers) (texts_set 1 columns assigns)
 
--- the changes of one row: its values, and what the kind of each of these indexes has for it
-abbrev pub row_update_changes : Content → StoreState → List ℕ → List Column → List Assign → List (List ℕ × IndexHead) → ℤ → List (Key × Option (List ℕ))
-row_update_changes c m t columns assigns indexes r = value_changes t columns assigns (numbers_of (row_values m.tables t r)) r ++ heads_changes (at c) r Changes indexes
+-- what is needed of the indexes on a table that look at columns that are set
+abbrev pub indexes_set : StoreState → List ℕ → List Column → List Assign → List (List ℕ × Noted)
+indexes_set m t columns assigns = noted_set (places_set columns assigns) (noted_on m.indexes t)
 
--- The batch updates this row of a table with these columns behind the key, and tells these indexes of it.
-abbrev pub UpdatesRow : Content → StoreState → List ℕ → List Column → List Assign → List (List ℕ × IndexHead) → ℤ → List (List ℕ × Option (List ℕ)) → Type 0
-UpdatesRow c m t columns assigns indexes r batch = batch ≡ spell (row_update_changes c m t columns assigns indexes r)
+-- a row that is set, by what it was
+abbrev pub changing : List Column → List Assign → ℤ → Option (List Value) → RowChange
+changing columns assigns r old = record { row = r; old = old; new = Some (updated_values columns assigns (values_behind_key old)) }
+
+-- the changes of one row: its values, and what the kind of each of these indexes has for it
+abbrev pub row_update_changes : Content → StoreState → List ℕ → List Column → List Assign → List (List ℕ × Noted) → ℤ → List (Key × Option (List ℕ))
+row_update_changes c m t columns assigns indexes r =
+    value_changes t columns assigns (numbers_of (row_values m.tables t r)) r ++ all_noted_changes (at c) (changing columns assigns r (row_at m.tables t r)) indexes
 
 -- the changes of each of these rows
-abbrev pub update_changes : Content → StoreState → List ℕ → List Column → List Assign → List (List ℕ × IndexHead) → List ℤ → List (Key × Option (List ℕ))
+abbrev pub update_changes : Content → StoreState → List ℕ → List Column → List Assign → List (List ℕ × Noted) → List ℤ → List (Key × Option (List ℕ))
 update_changes c m t columns assigns indexes rows = each (λ r. row_update_changes c m t columns assigns indexes r) rows
 
--- The same of each of these rows.
-abbrev pub UpdatesRows : Content → StoreState → List ℕ → List Column → List Assign → List (List ℕ × IndexHead) → List ℤ → List (List ℕ × Option (List ℕ)) → Type 0
-UpdatesRows c m t columns assigns indexes rows batch = batch ≡ spell (update_changes c m t columns assigns indexes rows)
+-- The changes tell these indexes of a row of a table with these columns.
+abbrev pub TellsOfRow : Content → Table → List Column → List Assign → List TableIndex → ℤ → List (List ℕ × Option (List ℕ)) → Type 0
+TellsOfRow c x columns assigns indexes r notes = notes ≡ spell (all_noted_changes (at c) (changing (others columns) assigns r (get x.rows r)) (noted_indexes indexes))
 
--- The batch updates these rows of a table with these columns, in each index on a column that is set.
+-- The batch updates this row of a table with these columns, and tells these indexes of it.
+abbrev pub UpdatesRow : Content → StoreState → List ℕ → List Column → List Assign → List TableIndex → ℤ → List (List ℕ × Option (List ℕ)) → Type 0
+UpdatesRow c m t columns assigns indexes r batch = batch ≡ spell (row_update_changes c m t (others columns) assigns (noted_indexes indexes) r)
+
+-- The same of each of these rows.
+abbrev pub UpdatesRows : Content → StoreState → List ℕ → List Column → List Assign → List TableIndex → List ℤ → List (List ℕ × Option (List ℕ)) → Type 0
+UpdatesRows c m t columns assigns indexes rows batch = batch ≡ spell (update_changes c m t (others columns) assigns (noted_indexes indexes) rows)
+
+-- The batch updates these rows of a table with these columns, in each index that looks at a column that is set.
 abbrev pub UpdatesTable : Content → StoreState → List ℕ → List Column → List Assign → List ℤ → List (List ℕ × Option (List ℕ)) → Type 0
-UpdatesTable c m t columns assigns rows batch = UpdatesRows c m t (others columns) assigns (indexes_set m t columns assigns) rows batch
+UpdatesTable c m t columns assigns rows batch = batch ≡ spell (update_changes c m t (others columns) assigns (indexes_set m t columns assigns) rows)
 
 -- computed examples
 abbrev set_price : Operand → Assign
@@ -207,6 +211,10 @@ no_text_set = refl
 
 its_values : updated_values priced (set_price (Number (Fits (pos 9))) ∷ []) (TextValue (codes "fox") ∷ NumberValue (pos 3) ∷ NumberValue (pos 4) ∷ []) ≡ TextValue (codes "fox") ∷ NumberValue (pos 9) ∷ NumberValue (pos 4) ∷ []
 its_values = refl
+
+priced_at_nine : changing priced (set_price (Number (Fits (pos 9))) ∷ []) (pos 7) (Some (TextValue (codes "fox") ∷ NumberValue (pos 3) ∷ NumberValue (pos 4) ∷ []))
+    ≡ record { row = pos 7; old = Some (TextValue (codes "fox") ∷ NumberValue (pos 3) ∷ NumberValue (pos 4) ∷ []); new = Some (TextValue (codes "fox") ∷ NumberValue (pos 9) ∷ NumberValue (pos 4) ∷ []) }
+priced_at_nine = refl
 
 -- the checks of a table of id NUMBER PRIMARY KEY, title VARCHAR2(3), price NUMBER
 abbrev titled : List Column

@@ -5,20 +5,21 @@ ghost use Rattle.std.specs.Prelude.{◌≡◌, ◌≤◌, IfOk, Some, None, Err,
 ghost use Rattle.ct_base.specs.Limits.{column_limit};
 ghost use Rattle.ct_keep.specs.KeeperViews.{Finds, OnlyReads, Told};
 ghost use Rattle.ct_entry.specs.Keys.{at};
-ghost use Rattle.ct_entry.specs.Changes.{spell};
+ghost use Rattle.ix_indexes.specs.Noting.{AllCanTell};
 ghost use Rattle.db_rows.specs.Checking.{check_conds};
 ghost use Rattle.db_state.specs.Effects.{Effect, Checks};
 ghost use Rattle.db_state.specs.Plans.{IsPlanOf, IsRemoval, IsStorePlan, Replies};
 ghost use Rattle.db_state.specs.Shapes.{AcceptsStatements, AreStoreChanges};
-ghost use Rattle.db_change.specs.Deleting.{delete_from as delete_from_effect, gone_row_changes, rows_deleted, TakesRows};
+ghost use Rattle.db_change.specs.Noting.{WhereRow, WhereRows};
+ghost use Rattle.db_change.specs.Deleting.{AllDrop, delete_from as delete_from_effect, rows_deleted, TakesRow, TakesRows};
 
-use ct_base::{COLUMN_LIMIT, Memory, Name, RowKey};
+use crate::noting::{indexes_on, values_needed};
+use ct_base::{COLUMN_LIMIT, Name, RowKey};
 use ct_keep::{Batch, KeepFault, Keeper};
 use db_cond::{Fault, rows_line};
-use db_names::{IndexHead, indexes_of};
 use db_rows::{conds_fault, keys_meeting};
 use db_state::{Plan, carry_out, table_columns};
-use ix_indexes::{RowEvent, row_notes};
+use ix_indexes::{RowEvent, TableIndex, row_notes};
 use st_parse::Cond;
 use std::alloc::Global;
 use tb_table::{Column, delete};
@@ -29,18 +30,22 @@ fn row_changes<K: Keeper>(
     keeper: &mut K,
     table: &Name,
     columns: &[Column],
-    indexes: &[(Name, IndexHead)],
+    indexes: &[TableIndex],
     row: RowKey,
 ) -> Result<Batch, KeepFault>
     requires ready { (K.view keeper.old).ready }
     requires few { length columns.now ≤ column_limit }
-    ensures changes { Finds K.view keeper.old result (λ m batch. batch ≡ spell (gone_row_changes (at m) table.now columns.now indexes.now row.0)) }
+    requires can { AllCanTell indexes.now }
+    ensures changes { WhereRow K.view keeper.old table.now columns.now row.0 (λ m c x. IfOk result (TakesRow m c table.now columns.now indexes.now row.0)) }
+    ensures drops { Finds K.view keeper.old result (λ m batch. AllDrop batch) }
     ensures shaped { IfOk result AreStoreChanges }
     ensures reads { OnlyReads K.view keeper.old keeper.new result }
 {
+    let old = values_needed(alloc, keeper, indexes, table, columns, row)?;
     let mut batch = Batch::new(alloc);
     delete(alloc, &mut batch, table, columns, row)?;
-    let notes = row_notes(alloc, keeper, indexes, row, RowEvent::Goes)?;
+    let was = old.as_slice();
+    let notes = row_notes(alloc, keeper, indexes, row, RowEvent::Goes(was))?;
     batch.append(notes)?;
     Ok(batch)
 }
@@ -51,12 +56,14 @@ fn rows_changes<K: Keeper>(
     keeper: &mut K,
     table: &Name,
     columns: &[Column],
-    indexes: &[(Name, IndexHead)],
+    indexes: &[TableIndex],
     rows: &[RowKey],
 ) -> Result<Batch, KeepFault>
     requires ready { (K.view keeper.old).ready }
     requires few { length columns.now ≤ column_limit }
-    ensures changes { Finds K.view keeper.old result (λ m. TakesRows (at m) table.now columns.now indexes.now (map (λ row. row.0) rows.now)) }
+    requires can { AllCanTell indexes.now }
+    ensures changes { WhereRows K.view keeper.old table.now columns.now rows.now (λ m c rs. IfOk result (TakesRows m c table.now columns.now indexes.now rs)) }
+    ensures drops { Finds K.view keeper.old result (λ m batch. AllDrop batch) }
     ensures shaped { IfOk result AreStoreChanges }
     ensures reads { OnlyReads K.view keeper.old keeper.new result }
 {
@@ -100,7 +107,7 @@ fn delete_plan<'a, K: Keeper>(
         return Ok((Plan::Refused(fault), 0));
     }
     let rows = keys_meeting(alloc, keeper, table, &columns, conds)?;
-    let indexes = indexes_of(alloc, keeper, table)?;
+    let indexes = indexes_on(alloc, keeper, table, &columns)?;
     let batch = rows_changes(alloc, keeper, table, &columns, &indexes, &rows)?;
     Ok((Plan::Done(batch), rows.len()))
 }
@@ -108,9 +115,11 @@ fn delete_plan<'a, K: Keeper>(
 /// DELETE: takes the rows that meet all conditions out of their table and out of the indexes on it, by at most one commit. There is
 /// always room for it, so Memory and Disk are the only errors.
 ///
-/// Its cost is that of `keys_meeting` for the conditions, of the entries of all indexes, and of the document of each row in each index
-/// on the table. So a DELETE of one row by its key costs the same in a table of any size. Its changes take memory: for each row one and one more
-/// for each column with texts, and at most two for each index.
+/// Its cost is that of `keys_meeting` for the conditions, of the entries of all indexes, and of what each row has in each index on the
+/// table: in a CONTEXT index the look-up of its document, and in a catalogue the reading of its text, for which its values are looked up
+/// once. A DELETE from a table without catalogues reads no text. So a DELETE of one row by its key costs the same in a table of any size.
+/// Its changes take memory: for each row one, and one more for each column with texts, and at most two for each CONTEXT index; and for
+/// each catalogue as many as the row has words, in the plain sub-index and in each other.
 pub fn delete_from<K: Keeper>(
     alloc: Global,
     keeper: &mut K,

@@ -1,7 +1,7 @@
 //! INSERT.
 #![tactic(auto, using(ct_keep::specs::laws::Composing::reads_on, ct_keep::specs::laws::Composing::reads_short, ct_keep::specs::laws::Composing::accepts_on))]
 
-ghost use Rattle.std.specs.Prelude.{◌≡◌, ◌≤◌, ◌<◌, ◌+◌, ◌++◌, IfOk, OnOk, Some, None, Err, true, false, nat_le, length, map};
+ghost use Rattle.std.specs.Prelude.{◌≡◌, ◌≤◌, ◌<◌, ◌+◌, IfOk, Some, None, Err, true, false, nat_le, length, map};
 ghost use Rattle.std.specs.List.{list_any, list_all, filter_map, All};
 ghost use Rattle.std.specs.Option.{option_map};
 ghost use Rattle.std.specs.FinMap.{get, entries};
@@ -12,20 +12,21 @@ ghost use Rattle.ct_entry.specs.Changes.{spell};
 ghost use Rattle.ct_entry.specs.Shapes.{AreShaped};
 ghost use Rattle.tb_table.specs.declared.columns.Column.{Column};
 ghost use Rattle.tb_table.specs.Shapes.{HasTableValue};
-ghost use Rattle.tb_table.specs.Tables.{Table, numbers_of, texts_of};
+ghost use Rattle.tb_table.specs.Tables.{texts_of};
 ghost use Rattle.db_state.specs.States.{OverNamedTable};
 ghost use Rattle.db_state.specs.Effects.{Effect, Checks};
 ghost use Rattle.db_state.specs.Columns.{first_unknown as unknown_name};
+ghost use Rattle.db_change.specs.Noting.{WhereTable};
 ghost use Rattle.db_change.specs.Inserting.{MakesRow, PlansRow, inserted_row_changes, are_of_sorts as all_of_sorts, arranged as arranged_values, behind_key as others_of, check_list, check_row_values, covers as covers_columns, has_row as has_row_of, has_too_long as any_too_long, insert_into as insert_into_effect, is_of_sort as sort_takes, is_too_long as too_long_for, key_in as key_of, kept_value, number_value, text_value, IsShortValue, listed_names, row_created, value_under as named_value, IsFreeRow};
 ghost use Rattle.db_rows.specs.Checking.{is_beyond_operand};
 ghost use Rattle.db_state.specs.Plans.{IsStorePlan, Plans, Replies, line_for_all};
 ghost use Rattle.db_state.specs.Shapes.{AcceptsStatements, AreStoreChanges};
 
 use crate::keeping::keep_values;
+use crate::noting::{indexes_on, new_values};
 use ct_base::{COLUMN_LIMIT, Memory, Name, ROW_LIMIT, RowKey, TEXT_LIMIT, Text};
 use ct_keep::{Batch, KeepFault, Keeper};
 use db_cond::Fault;
-use db_names::indexes_of;
 use db_state::{Plan, carry_out, has_column, table_columns};
 use ix_indexes::{RowEvent, row_notes};
 use st_parse::{ColumnNames, Operand, Whole};
@@ -381,21 +382,25 @@ fn insert_batch<K: Keeper>(
     alloc: Global,
     keeper: &mut K,
     table: &Name,
+    columns: &[Column],
     row: RowKey,
     values: Vec<Operand>,
 ) -> Result<Batch, KeepFault>
     requires ready { (K.view keeper.old).ready }
     requires few { length values.items ≤ column_limit }
     requires short { All IsShortValue values.items }
-    ensures batch { OverNamedTable K.view keeper.old table.now (λ m c x. IsFreeRow x values.items row.0 → IfOk result (MakesRow m c table.now row.0 values.items)) }
+    ensures batch { WhereTable K.view keeper.old table.now columns.now (λ m c x. IsFreeRow x values.items row.0 → IfOk result (MakesRow m c table.now row.0 values.items)) }
     ensures entries { IfOk result AreStoreChanges }
     ensures reads { OnlyReads K.view keeper.old keeper.new result }
 {
     let values = behind_key(values);
-    keep_values(values.as_slice());
+    let given = values.as_slice();
+    keep_values(given);
+    let indexes = indexes_on(alloc, keeper, table, columns)?;
+    let new = new_values(alloc, &indexes, given)?;
     let mut batch = row_batch(alloc, table, row, values)?;
-    let indexes = indexes_of(alloc, keeper, table)?;
-    let notes = row_notes(alloc, keeper, &indexes, row, RowEvent::Comes)?;
+    let next = new.as_slice();
+    let notes = row_notes(alloc, keeper, &indexes, row, RowEvent::Comes(next))?;
     batch.append(notes)?;
     Ok(batch)
 }
@@ -452,7 +457,7 @@ fn values_plan<'a, K: Keeper>(
     let Some(key) = key else {
         return Ok(Plan::Refused(Fault::OutOfRange));
     };
-    let batch = insert_batch(alloc, keeper, table, key, values)?;
+    let batch = insert_batch(alloc, keeper, table, columns, key, values)?;
     Ok(Plan::Done(batch))
 }
 
@@ -479,8 +484,9 @@ fn insert_plan<'a, K: Keeper>(
     values_plan(alloc, keeper, table, &columns, values)
 }
 
-/// INSERT. Its cost is that of the table's columns, of the entries of all indexes, and of the values' bytes, which are copied once. The
-/// keeper counts the rows of the table, so they aren't read.
+/// INSERT. Its cost is that of the table's columns, of the entries of all indexes, and of the values' bytes, which are copied once. In a
+/// CONTEXT index the row waits, at the cost of one change; for each catalogue its text is read at once, and for all of these its values
+/// are copied once more. The keeper counts the rows of the table, so they aren't read.
 pub fn insert_into<K: Keeper>(
     alloc: Global,
     keeper: &mut K,

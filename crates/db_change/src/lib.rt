@@ -7,6 +7,7 @@ mod deleting;
 mod dropping;
 mod inserting;
 mod keeping;
+mod noting;
 mod updating;
 
 pub use creating::create_table;

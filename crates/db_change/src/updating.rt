@@ -4,29 +4,31 @@
 ghost use Rattle.std.specs.Prelude.{◌≡◌, ◌≤◌, ◌<◌, IfOk, Some, [], length, map};
 ghost use Rattle.std.specs.List.{All, filter_map, cons_option};
 ghost use Rattle.std.specs.Option.{option_map, option_and_then};
+ghost use Rattle.std.specs.FinMap.{get};
 ghost use Rattle.ct_base.specs.Limits.{column_limit};
 ghost use Rattle.ct_keep.specs.KeeperViews.{OnlyReads};
 ghost use Rattle.ct_entry.specs.Changes.{spell};
 ghost use Rattle.ct_entry.specs.Shapes.{AreShaped};
-ghost use Rattle.ix_kinds.specs.RowSteps.{is_column};
+ghost use Rattle.ix_indexes.specs.Shapes.{HasIndexValue};
+ghost use Rattle.ix_indexes.specs.Noting.{AllCanTell, noted_by, noted_indexes, noted_looks_any};
 ghost use Rattle.tb_table.specs.Rules.{others};
 ghost use Rattle.tb_table.specs.Shapes.{HasTableValue};
-ghost use Rattle.db_state.specs.States.{OverStates};
 ghost use Rattle.db_state.specs.Plans.{IsPlanOf, IsStorePlan, Replies};
 ghost use Rattle.db_state.specs.Shapes.{AcceptsStatements, AreStoreChanges};
 ghost use Rattle.db_change.specs.Inserting.{number_value, text_value};
-ghost use Rattle.db_change.specs.Updating.{indexes_set as indexes_of_set, heads_set as heads_on_set, number_set as column_number, numbers_after as numbers_changed, places_set, rows_updated, set_in as value_set, texts_set as texts_changed, update as update_effect, value_changes, with_set as numbers_with, IsShortAssign, UpdatesRow, UpdatesRows, UpdatesTable};
+ghost use Rattle.db_change.specs.Noting.{AreNoted, noted_set, WhereRow, WhereRows, WhereTable};
+ghost use Rattle.db_change.specs.Updating.{indexes_set as indexes_of_set, number_set as column_number, numbers_after as numbers_changed, places_set, rows_updated, set_in as value_set, texts_set as texts_changed, update as update_effect, value_changes, with_set as numbers_with, IsShortAssign, TellsOfRow, UpdatesRow, UpdatesRows, UpdatesTable};
 
 use crate::assigning::update_fault;
 use crate::inserting::{column_of, number_in};
 use crate::keeping::keep_assigns;
+use crate::noting::{indexes_on, updated_values, values_needed};
 use ct_base::{Memory, Name, RowKey, Text};
 use ct_keep::{Batch, KeepFault, Keeper};
 use db_cond::{Fault, rows_line};
-use db_names::{IndexHead, indexes_of};
 use db_rows::{keys_meeting, row_numbers};
 use db_state::{Plan, carry_out, column_place, table_columns};
-use ix_indexes::{RowEvent, row_notes};
+use ix_indexes::{RowEvent, TableIndex, looks_at, row_notes};
 use st_parse::{Assign, Cond, Operand};
 use std::alloc::Global;
 use tb_table::{Column, Sort};
@@ -44,7 +46,7 @@ fn behind_key(columns: &[Column]) -> &[Column]
 }
 
 /// The value that is set in a column, if one is.
-fn set_in<'a>(name: &Name, assigns: &'a [Assign]) -> Option<&'a Operand>
+pub(crate) fn set_in<'a>(name: &Name, assigns: &'a [Assign]) -> Option<&'a Operand>
     ensures { option_map (λ value. value.now) result ≡ value_set assigns.now name.now }
 {
     for assign in assigns {
@@ -170,94 +172,129 @@ fn value_batch(
     Ok(batch)
 }
 
-// ---- the indexes on columns that are set
+// ---- the indexes that look at columns that are set
 
-fn is_at(place: Option<usize>, column: u8) -> bool
-    ensures { result ≡ is_column (cons_option place []) column }
+/// Whether the index looks at the column of this place, if there is one.
+fn looks_there(index: &TableIndex, place: Option<usize>) -> bool
+    ensures { result ≡ noted_looks_any (cons_option place []) (noted_by index.now.noting) }
 {
     match place {
-        Some(place) => place == usize::from(column),
+        Some(place) => looks_at(index, place),
         None => false,
     }
 }
 
-/// Whether the column of this place is set.
-fn is_place_set(column: u8, columns: &[Column], assigns: &[Assign]) -> bool
-    ensures { result ≡ is_column (places_set columns.now assigns.now) column }
+/// Whether the index looks at a column that is set.
+fn looks_at_set(index: &TableIndex, columns: &[Column], assigns: &[Assign]) -> bool
+    ensures { result ≡ noted_looks_any (places_set columns.now assigns.now) (noted_by index.now.noting) }
 {
-    for assign in assigns {
-        if is_at(column_place(&assign.column, columns), column) {
+    let mut rest = assigns;
+    while let [assign, later @ ..] = rest {
+        if looks_there(index, column_place(&assign.column, columns)) {
             return true;
         }
+        rest = later;
     }
     false
 }
 
-/// Keeps the indexes on columns that are set.
-fn keep_set(indexes: &mut Vec<(Name, IndexHead)>, columns: &[Column], assigns: &[Assign])
-    ensures { indexes.new.items ≡ heads_on_set (places_set columns.now assigns.now) indexes.old.items }
+/// Keeps the indexes that look at columns that are set.
+fn keep_set(indexes: &mut Vec<TableIndex>, columns: &[Column], assigns: &[Assign])
+    ensures kept { noted_indexes indexes.new.items ≡ noted_set (places_set columns.now assigns.now) (noted_indexes indexes.old.items) }
+    ensures can_tell { AllCanTell indexes.old.items → AllCanTell indexes.new.items }
 {
-    indexes.retain(|index| is_place_set(index.1.target.column, columns, assigns));
+    indexes.retain(|index| looks_at_set(index, columns, assigns));
 }
 
-/// The indexes on columns that are set.
+/// The indexes that look at columns that are set.
 fn indexes_set<K: Keeper>(
     alloc: Global,
     keeper: &mut K,
     table: &Name,
     columns: &[Column],
     assigns: &[Assign],
-) -> Result<Vec<(Name, IndexHead)>, KeepFault>
+) -> Result<Vec<TableIndex>, KeepFault>
     requires { (K.view keeper.old).ready }
-    ensures heads { OverStates K.view keeper.old (λ m c. IfOk result (λ heads. heads.items ≡ indexes_of_set m table.now columns.now assigns.now)) }
+    ensures indexes { WhereTable K.view keeper.old table.now columns.now (λ m c x. IfOk result (AreNoted (indexes_of_set m table.now columns.now assigns.now))) }
+    ensures can_tell { IfOk result (λ found. AllCanTell found.items) }
     ensures reads { OnlyReads K.view keeper.old keeper.new result }
 {
-    let mut heads = indexes_of(alloc, keeper, table)?;
-    keep_set(&mut heads, columns, assigns);
-    Ok(heads)
+    let mut indexes = indexes_on(alloc, keeper, table, columns)?;
+    keep_set(&mut indexes, columns, assigns);
+    Ok(indexes)
 }
 
 // ---- the rows
 
-/// The changes of one row. Its cost is that of the texts that are set, a look-up of its numbers, and one of its document in each
-/// index.
+/// What the indexes are told of a row that is set.
+fn notes_of_row<K: Keeper>(
+    alloc: Global,
+    keeper: &mut K,
+    table: &Name,
+    columns: &[Column],
+    assigns: &[Assign],
+    indexes: &[TableIndex],
+    row: RowKey,
+) -> Result<Batch, KeepFault>
+    requires ready { (K.view keeper.old).ready }
+    requires short { All IsShortAssign assigns.now }
+    requires can { AllCanTell indexes.now }
+    ensures notes { WhereRow K.view keeper.old table.now columns.now row.0 (λ m c x. IfOk result (TellsOfRow c x columns.now assigns.now indexes.now row.0)) }
+    ensures shaped { IfOk result (AreShaped HasIndexValue) }
+    ensures reads { OnlyReads K.view keeper.old keeper.new result }
+{
+    let old = values_needed(alloc, keeper, indexes, table, columns, row)?;
+    let was = old.as_slice();
+    let new = updated_values(alloc, behind_key(columns), assigns, was)?;
+    let next = new.as_slice();
+    let notes = row_notes(alloc, keeper, indexes, row, RowEvent::Changes(was, next))?;
+    Ok(notes)
+}
+
+/// The changes of one row of a table with these columns.
+///
+/// Its cost is that of the texts that are set, a look-up of its numbers, and one of its document in each CONTEXT index. Only where one
+/// of the indexes is a catalogue its values are looked up, and its text is read once as it was and once as it will be.
 fn row_batch<K: Keeper>(
     alloc: Global,
     keeper: &mut K,
     table: &Name,
     columns: &[Column],
     assigns: &[Assign],
-    indexes: &[(Name, IndexHead)],
+    indexes: &[TableIndex],
     row: RowKey,
 ) -> Result<Batch, KeepFault>
     requires ready { (K.view keeper.old).ready }
     requires few { length columns.now ≤ column_limit }
     requires short { All IsShortAssign assigns.now }
-    ensures batch { OverStates K.view keeper.old (λ m c. IfOk result (UpdatesRow c m table.now columns.now assigns.now indexes.now row.0)) }
+    requires can { AllCanTell indexes.now }
+    ensures batch { WhereRow K.view keeper.old table.now columns.now row.0 (λ m c x. IfOk result (UpdatesRow c m table.now columns.now assigns.now indexes.now row.0)) }
     ensures entries { IfOk result AreStoreChanges }
     ensures reads { OnlyReads K.view keeper.old keeper.new result }
 {
     let numbers = row_numbers(alloc, keeper, table, row)?;
-    let mut batch = value_batch(alloc, table, columns, assigns, row, &numbers)?;
-    let notes = row_notes(alloc, keeper, indexes, row, RowEvent::Changes)?;
+    let behind = behind_key(columns);
+    let mut batch = value_batch(alloc, table, behind, assigns, row, &numbers)?;
+    let notes = notes_of_row(alloc, keeper, table, columns, assigns, indexes, row)?;
     batch.append(notes)?;
     Ok(batch)
 }
 
-/// The changes of these rows of a table with these columns behind the key.
+/// The changes of these rows of a table with these columns.
 fn rows_batch<K: Keeper>(
     alloc: Global,
     keeper: &mut K,
     table: &Name,
     columns: &[Column],
     assigns: &[Assign],
-    indexes: &[(Name, IndexHead)],
+    indexes: &[TableIndex],
     rows: &[RowKey],
 ) -> Result<Batch, KeepFault>
     requires ready { (K.view keeper.old).ready }
     requires few { length columns.now ≤ column_limit }
     requires short { All IsShortAssign assigns.now }
-    ensures batch { OverStates K.view keeper.old (λ m c. IfOk result (UpdatesRows c m table.now columns.now assigns.now indexes.now (map (λ r. r.0) rows.now))) }
+    requires can { AllCanTell indexes.now }
+    ensures batch { WhereRows K.view keeper.old table.now columns.now rows.now (λ m c rs. IfOk result (UpdatesRows c m table.now columns.now assigns.now indexes.now rs)) }
     ensures entries { IfOk result AreStoreChanges }
     ensures reads { OnlyReads K.view keeper.old keeper.new result }
 {
@@ -269,7 +306,7 @@ fn rows_batch<K: Keeper>(
     Ok(batch)
 }
 
-/// The changes of these rows of a table with these columns.
+/// The changes of these rows of a table with these columns, in each index that looks at a column that is set.
 fn update_batch<K: Keeper>(
     alloc: Global,
     keeper: &mut K,
@@ -281,20 +318,12 @@ fn update_batch<K: Keeper>(
     requires ready { (K.view keeper.old).ready }
     requires few { length columns.now ≤ column_limit }
     requires short { All IsShortAssign assigns.now }
-    ensures batch { OverStates K.view keeper.old (λ m c. IfOk result (UpdatesTable c m table.now columns.now assigns.now (map (λ r. r.0) rows.now))) }
+    ensures batch { WhereRows K.view keeper.old table.now columns.now rows.now (λ m c rs. IfOk result (UpdatesTable c m table.now columns.now assigns.now rs)) }
     ensures entries { IfOk result AreStoreChanges }
     ensures reads { OnlyReads K.view keeper.old keeper.new result }
 {
     let indexes = indexes_set(alloc, keeper, table, columns, assigns)?;
-    rows_batch(
-        alloc,
-        keeper,
-        table,
-        behind_key(columns),
-        assigns,
-        &indexes,
-        rows,
-    )
+    rows_batch(alloc, keeper, table, columns, assigns, &indexes, rows)
 }
 
 // ---- the statement
@@ -324,9 +353,10 @@ fn update_plan<'a, K: Keeper>(
     Ok((Plan::Done(batch), rows.len()))
 }
 
-/// UPDATE, by at most one commit. Its cost is that of `keys_meeting` for the conditions, of the entries of all indexes, and, for each
-/// row, of its numbers and its document in each index on a column that is set. So an UPDATE of one row by its key costs as much in any
-/// table.
+/// UPDATE, by at most one commit. Its cost is that of `keys_meeting` for the conditions, of the entries of all indexes, and for each row
+/// of its numbers and of what it has in each index that looks at a column that is set: in a CONTEXT index the look-up of its document,
+/// and in a catalogue the reading of its text as it was and as it is, for which its values are looked up once. An UPDATE of columns that
+/// no catalogue looks at reads no text. So an UPDATE of one row by its key costs as much in any table.
 pub fn update<K: Keeper>(
     alloc: Global,
     keeper: &mut K,

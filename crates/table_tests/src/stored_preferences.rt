@@ -8,9 +8,9 @@ use std::alloc::Global;
 use std::test::Fail;
 use test_keepers::{commit, named, new_keeper};
 use tx_prefs::{
-    Parameters, PrefKind, Request, copy, group_changes, has_named, is_kind_full, is_pref_shape,
-    lexer_changes, lexer_settings, read_requests, requested_parameters, section_group,
-    stoplist_changes, stoplist_words, unknown_request, with_setting,
+    Parameters, PrefKind, Request, asks_only, copy, group_changes, has_named, is_kind_full,
+    is_pref_shape, lexer_changes, lexer_settings, read_requests, requested_parameters,
+    requested_set, section_group, stoplist_changes, stoplist_words, unknown_request, with_setting,
 };
 use tx_settings::{Attribute, Prefs, Setting, read_group, read_settings, read_words};
 use tx_tags::Section;
@@ -328,7 +328,20 @@ fn say_name(line: &mut String, name: &Option<Name>) -> Result<(), Memory> {
     }
 }
 
-/// The name that none has, if there is one, and then those of the preference, the stoplist and the group.
+/// What a catalogue may ask for.
+const OF_CATALOGUES: &[PrefKind] = &[PrefKind::Lexer, PrefKind::Stoplist, PrefKind::IndexSet];
+
+/// Whether a catalogue may ask for these.
+fn say_taken(line: &mut String, requests: &[Request]) -> Result<(), Memory> {
+    if asks_only(OF_CATALOGUES, requests) {
+        say(line, "taken")
+    } else {
+        say(line, "refused")
+    }
+}
+
+/// The name that none has, if there is one, those of the preference, the stoplist, the group and the index set, and whether a
+/// catalogue may ask for them.
 fn say_requests(alloc: Global, line: &mut String, requests: &[Request]) -> Result<(), KeepFault> {
     let mut keeper = stored(alloc)?;
     let unknown = unknown_request(alloc, &mut keeper, requests)?;
@@ -337,6 +350,8 @@ fn say_requests(alloc: Global, line: &mut String, requests: &[Request]) -> Resul
     say_name(line, &asked.lexer)?;
     say_name(line, &asked.stoplist)?;
     say_name(line, &asked.group)?;
+    say_name(line, &requested_set(requests)?)?;
+    say_taken(line, requests)?;
     Ok(())
 }
 
@@ -351,16 +366,25 @@ fn requests_line(alloc: Global, text: &str) -> Result<String, KeepFault> {
 
 /// Texts, and what they ask for.
 const REQUESTS: &[(&str, &str)] = &[
-    ("", "- - - - "),
+    ("", "- - - - - taken "),
     (
         " Lexer LX\n\tSECTION group ctxsys.Null_Section_Group ",
-        "- lx - - ",
+        "- lx - - - refused ",
     ),
-    ("stoplist sl section group g lexer lx", "- lx sl g "),
+    (
+        "stoplist sl section group g lexer lx",
+        "- lx sl g - refused ",
+    ),
     (
         "lexer ctxsys.default_lexer stoplist lx section group sl",
-        "lx - lx sl ",
+        "lx - lx sl - refused ",
     ),
+    ("lexer lx INDEX\tset ISET", "- lx - - iset taken "),
+    ("index set g stoplist sl", "g - sl - g taken "),
+    ("index set", "none "),
+    ("index lx", "none "),
+    ("index set iset index set iset", "none "),
+    ("index set ctxsys.empty_index_set", "none "),
     ("lexer a lexer b", "none "),
     ("lexer", "none "),
     ("section g", "none "),

@@ -1,23 +1,21 @@
 -- The state after new values of rows.
-use Rattle.std.proofs.Common.{◌≡◌, ℕ, ℤ, ◌<◌, ◌≤◌, ◌^◌, Bool, true, false, List, [], ◌∷◌, ◌++◌, length, map, Option, Some, None, refl, sym, ap, subst, ◌∙◌, arith, inl, inr}
+use Rattle.std.proofs.Common.{◌≡◌, ℕ, ℤ, ◌≤◌, Bool, true, false, List, [], ◌∷◌, ◌++◌, length, Option, Some, None, refl, sym, ap, subst, ◌∙◌, arith, inl, inr}
 use Rattle.std.specs.Prelude.{is_some, ◌||◌}
-use Rattle.std.specs.List.{All}
+use Rattle.std.specs.List.{list_any}
 use Rattle.std.specs.Option.{option_map}
 use Rattle.std.specs.Ordering.{int_eq}
 use Rattle.std.specs.FinMap.{get}
-use Rattle.ct_base.specs.Names.{IsName}
 use Rattle.ct_base.specs.declared.lists.Value.{Value}
 use Rattle.ct_base.specs.laws.Options.{option_map_some}
 use Rattle.ct_keep.specs.Content.{Content, after}
 use Rattle.ct_entry.specs.declared.kinds.Kind.{Kind}
 use Rattle.ct_entry.specs.declared.kinds.Kind.TheVariants as kind
 use Rattle.ct_entry.specs.Keys.{Key, at, same_list, IsRow}
-use Rattle.ct_entry.specs.Each.{each, is_any_of}
+use Rattle.ct_entry.specs.Each.{each}
 use Rattle.ct_entry.specs.Lists.{IsIn, AreApart}
 use Rattle.ct_entry.specs.Changes.{spell, view, AreChanges, AllOf}
 use Rattle.ct_entry.specs.laws.Changes.{at_view, at-after, only-after, told_frame, view-append, are-append, all-append}
 use Rattle.ct_entry.specs.laws.Each.{all_each}
-use Rattle.ct_entry.specs.laws.Keys.{list_same}
 use Rattle.ct_entry.specs.laws.Parts.{int_from_eq}
 use Rattle.tb_table.specs.declared.columns.Column.{Column}
 use Rattle.tb_table.specs.Tables.{Table, Tables, row_in, row_at, numbers_of, with_row}
@@ -27,22 +25,17 @@ use Rattle.tb_table.specs.laws.Changes.{is_of_tables, all_insert, tables_frame, 
 use Rattle.tb_table.specs.laws.Updates.{stand_update}
 use Rattle.tb_table.specs.laws.Rules.{update_keeps}
 use Rattle.tb_table.specs.laws.Well.{are_insert}
-use Rattle.ix_docmap.specs.Changes.{changed_changes}
-use Rattle.ix_docmap.specs.Readings.{document_at}
-use Rattle.ix_docmap.specs.laws.Documents.{is_of_map}
 use Rattle.ix_kinds.specs.Rows.{RowChange, table_at, value_of_row}
-use Rattle.ix_kinds.specs.Statements.{tables_after, looks_at_any, is_on, AreIndexesOn, indexes_after, row_changes_at}
+use Rattle.ix_kinds.specs.Statements.{tables_after, looks_at_any, AreIndexesOn, indexes_after, row_changes_at}
+use Rattle.ix_kinds.specs.IndextypeLaws.{by_row}
 use Rattle.ix_kinds.specs.RowSteps.{HaveSameColumns, DifferInRow, SetsColumns, AwaitsTurn, IsStep, AreSteps, IndexesHold}
 use Rattle.ix_kinds.specs.laws.Tables.{and_false, differs, row_now as row_after, set_looks_alike, HasStill, has_still}
 use Rattle.ix_kinds.specs.laws.Turns.{row_is_row, rows_in_turn}
-use Rattle.db_names.specs.declared.heads.IndexKind.{IndexKind}
-use Rattle.db_names.specs.declared.heads.IndexKind.TheVariants.{Context, Catalogue, Rules}
-use Rattle.db_names.specs.declared.heads.IndexHead.{IndexHead}
-use Rattle.ix_indexes.specs.Indexes.{Index, kinds, StandsUnder, IndexesStand}
-use Rattle.ix_indexes.specs.laws.Indexes.{context_is}
-use Rattle.ix_indexes.specs.declared.noting.RowEvent.TheVariants.{Changes}
-use Rattle.ix_indexes.specs.Noting.{kind_changes, heads_changes}
-use Rattle.ix_indexes.specs.laws.Noting.{each_among}
+use Rattle.ix_indexes.specs.Indexes.{Index, kinds, IndexesStand}
+use Rattle.ix_indexes.specs.Noting.{Noted, all_noted_changes, noted_named}
+use Rattle.ix_indexes.specs.laws.Indexes.{kinds_laws}
+use Rattle.ix_indexes.specs.laws.Noting.{is_noted, notes_are_changes, notes_of}
+use Rattle.db_state.specs.laws.NoteKeys.{notes_are_keys}
 use Rattle.db_change.specs.laws.IndexCounts.{few_after}
 use Rattle.st_parse.specs.declared.statements.Assign.{Assign}
 use Rattle.db_rows.specs.Values.{values_behind_key, row_values}
@@ -50,29 +43,26 @@ use Rattle.tx_prefs.specs.Spelling.{PreferencesStand}
 use Rattle.tx_prefs.specs.laws.Changes.{preferences_frame, other_kinds}
 use Rattle.th_store.specs.laws.Changes.{thesauri_unchanged}
 use Rattle.db_state.specs.States.{StoreState, StandsForState, HasShortRows, is_of_rows, is_built, is_view, index_limit}
-use Rattle.db_state.specs.laws.Kinds.{tables_no_map}
+use Rattle.db_state.specs.laws.Kinds.{tables_no_noted}
 use Rattle.db_state.specs.laws.ShortRows.{rows_frame}
-use Rattle.db_state.specs.laws.Heads.{store_heads}
-use Rattle.db_change.specs.Updating.{updated_values, places_set, row_updated, with_updates, numbers_after, texts_set, value_changes, update_changes}
+use Rattle.db_change.specs.Updating.{changing, updated_values, places_set, row_updated, with_updates, numbers_after, texts_set, value_changes, update_changes}
+use Rattle.db_change.specs.laws.NewRows.{indexes_hold}
 use Rattle.db_change.specs.laws.NewTables.{apart}
 use Rattle.std.proofs.lemmas.Bool.{or_right}
 use Rattle.db_change.specs.laws.SetValues.{SetFits, values_fit, numbers_values, is_update, set_places, value_stays}
-use Rattle.ix_context.specs.laws.RowChanges.{document_read}
-use Rattle.ix_context.specs.laws.ContextCreates.{context_laws}
 use Rattle.ix_context.specs.laws.ContextRows.{all_weaker}
-use Rattle.ix_indexes.specs.laws.Noting.{notes_of_map, notes_are}
 
 -- ---- the kinds of the changes
 
--- the kinds of tables, and of the map from rows to documents
+-- the kinds of tables, and of what indexes are told
 abbrev is_of_update : Kind → Bool
-is_of_update k = is_of_tables k || is_of_map k
+is_of_update k = is_of_tables k || is_noted k
 
 of_tables : (k : Kind) → is_of_tables k ≡ true → is_of_update k ≡ true
-of_tables k h = ap (λ (b : Bool). b || is_of_map k) h
+of_tables k h = ap (λ (b : Bool). b || is_noted k) h
 
-of_map : (k : Kind) → is_of_map k ≡ true → is_of_update k ≡ true
-of_map k h = or_right (is_of_tables k) (is_of_map k) h
+of_noted : (k : Kind) → is_noted k ≡ true → is_of_update k ≡ true
+of_noted k h = or_right (is_of_tables k) (is_noted k) h
 
 update_built : (k : Kind) → is_built k ≡ false → is_of_update k ≡ false
 update_built kind.Tables h = cc
@@ -81,26 +71,13 @@ update_built kind.RowTexts h = cc
 update_built kind.DocumentRows h = cc
 update_built kind.RowDocuments h = cc
 update_built kind.Pending h = cc
+update_built kind.Catalogue h = cc
 update_built k h = refl
 
 update_rows : (k : Kind) → is_of_rows k ≡ true → is_of_update k ≡ false
 update_rows kind.Postings h = refl
 update_rows kind.Spans h = refl
 update_rows k h = cc
-
--- ---- keys
-
-are_changed : (i : List ℕ) (r : ℤ) (o : Option ℕ) → IsName i → IsRow r → ((d : ℕ) → o ≡ Some d → d < 2 ^ 32) → AreChanges (changed_changes i r o)
-are_changed i r None name row few = tt
-are_changed i r (Some d) name row few = (
-  record { owner = name; part = (d, few d refl, refl) },
-  (record { owner = name; part = (r, row, refl) }, (record { owner = name; part = (r, row, refl) }, tt)),
-)
-
-are_told : (f : Key → Option (List ℕ)) (kind : IndexKind) (i : List ℕ) (r : ℤ) → IsName i → IsRow r → ((d : ℕ) → document_at f i r ≡ Some d → d < 2 ^ 32) → AreChanges (kind_changes f kind i r Changes)
-are_told f Context i r name row few = are_changed i r (document_at f i r) name row few
-are_told f Catalogue i r name row few = tt
-are_told f Rules i r name row few = tt
 
 -- ---- the same columns
 
@@ -118,10 +95,11 @@ alike_after t columns assigns (r ∷ rows) ts q =
 
 -- ---- the rows of a statement
 
-module _ (c : Content) (m : StoreState) (t : List ℕ) (x : Table) (assigns : List Assign) (es : List (List ℕ × IndexHead)) (stands : StandsForState c m) (here : get m.tables t ≡ Some x) (set : SetFits assigns (others x.columns))
-    (own_heads : All (λ e. get (store_heads m.indexes) e.0 ≡ Some e.1) es) (on : AreIndexesOn kinds (looks_at_any kinds (places_set x.columns assigns)) m.indexes t (map (λ e. e.0) es)) where
-  abbrev names : List (List ℕ)
-  names = map (λ e. e.0) es
+module _ (c : Content) (m : StoreState) (t : List ℕ) (x : Table) (assigns : List Assign) (names : List (List ℕ)) (stands : StandsForState c m) (here : get m.tables t ≡ Some x) (set : SetFits assigns (others x.columns))
+    (on : AreIndexesOn kinds (looks_at_any kinds (places_set x.columns assigns)) m.indexes t names) where
+  -- what is needed of the indexes
+  abbrev es : List (List ℕ × Noted)
+  es = noted_named m.indexes names
 
   abbrev columns : List Column
   columns = others x.columns
@@ -135,12 +113,12 @@ module _ (c : Content) (m : StoreState) (t : List ℕ) (x : Table) (assigns : Li
   abbrev own : ℤ → List (Key × Option (List ℕ))
   own r = value_changes t columns assigns (numbers_of (row_values m.tables t r)) r
 
-  abbrev notes : ℤ → List (Key × Option (List ℕ))
-  notes r = heads_changes (at c) r Changes es
-
   -- a row as UPDATE tells of it
   abbrev change : ℤ → RowChange
-  change r = record { row = r; old = row_at m.tables t r; new = Some (updated_values columns assigns (row_values m.tables t r)) }
+  change r = changing columns assigns r (row_at m.tables t r)
+
+  abbrev notes : ℤ → List (Key × Option (List ℕ))
+  notes r = all_noted_changes (at c) (change r) es
 
   -- a row that is there, as its turn comes
   record Turn (ts : Tables) (r : ℤ) : Type 0 where
@@ -205,7 +183,7 @@ module _ (c : Content) (m : StoreState) (t : List ℕ) (x : Table) (assigns : Li
     stands_then : (f : Key → Option (List ℕ)) → IsRow r → TablesStand f ts → TablesStand (view (own r ++ notes r) f) (step ts r)
     stands_then f row stand =
         subst (λ (g : Key → Option (List ℕ)). TablesStand g (step ts r)) (sym (view-append (own r) (notes r) f))
-        (tables_frame is_of_map (notes r) (view (own r) f) (step ts r) (notes_of_map (at c) r Changes es) tables_no_map
+        (tables_frame is_noted (notes r) (view (own r) f) (step ts r) (notes_of (at c) (change r) es) tables_no_noted
         (subst (λ (ws : List (Key × Option (List ℕ))). TablesStand (view ws f) (step ts r)) own_is
         (subst (TablesStand (view (insert_changes t r (numbers_of new) (texts_set 1 columns assigns)) f)) (sym step_is)
         (stand_update f ts t r at_turn.old new (texts_set 1 columns assigns) row_now row (is_update assigns columns at_turn.old at_turn.fit set) stand))))
@@ -243,30 +221,22 @@ module _ (c : Content) (m : StoreState) (t : List ℕ) (x : Table) (assigns : Li
       all_each is_of_update (λ r. own r ++ notes r)
       (λ r. all-append is_of_update (own r) (notes r)
       (all_weaker is_of_tables is_of_update of_tables (own r) (all_insert t r (numbers_after columns assigns (numbers_of (row_values m.tables t r))) (texts_set 1 columns assigns)))
-      (all_weaker is_of_map is_of_update of_map (notes r) (notes_of_map (at c) r Changes es))) rows
+      (all_weaker is_noted is_of_update of_noted (notes r) (notes_of (at c) (change r) es))) rows
 
-  -- an index on a column that is set gives its document a number that keys have
-  document_few : (i : List ℕ) (r : ℤ) → IsRow r → (o : Option Index) → get m.indexes i ≡ o → is_on kinds (looks_at_any kinds places) t o ≡ true → (d : ℕ) → document_at (at c) i r ≡ Some d → d < 2 ^ 32
-  document_few i r row None is on d read = cc
-  document_few i r row (Some y) is on d read =
-      let stand : StandsUnder (at c) m.tables i (Some y) = subst (StandsUnder (at c) m.tables i) is (stands.indexes i) in
-      let most = (context_is m.tables y (stands.state.indexes.each i y is)).numbers in
-      let known = document_read (at c) i (get y.body.marks) y.body.part.given stand.part.document stand.part.row stand.part.documents (omega (arith, most)) r row in
-      let within = (stand.part.documents.numbers.within r d (sym known ∙ read)).1 in
-      omega (arith, most, within)
+  -- as the kinds of the indexes have them
+  abbrev kind_notes : ℤ → List (Key × Option (List ℕ))
+  kind_notes r = each (row_changes_at kinds (at c) m.indexes (table_at m.tables t).columns (change r)) names
 
-  index_named : (i : List ℕ) (o : Option Index) → get m.indexes i ≡ o → is_on kinds (looks_at_any kinds places) t o ≡ true → IsName i
-  index_named i None is on = cc
-  index_named i (Some y) is on = stands.state.indexes.names i y is
+  kind_notes_are : (r : ℤ) → kind_notes r ≡ notes r
+  kind_notes_are r = notes_are_changes (at c) m.indexes (table_at m.tables t).columns (change r) names
 
-  all_told : (r : ℤ) → IsRow r → (is : List (List ℕ × IndexHead)) → ((i : List ℕ) → is_any_of i (map (λ e. e.0) is) ≡ true → is_on kinds (looks_at_any kinds places) t (get m.indexes i) ≡ true)
-      → AreChanges (heads_changes (at c) r Changes is)
-  all_told r row [] each_on = tt
-  all_told r row (e ∷ is) each_on =
-      let first = each_on e.0 (ap (λ (b : Bool). b || is_any_of e.0 (map (λ (e : List ℕ × IndexHead). e.0) is)) (list_same e.0)) in
-      are-append (kind_changes (at c) e.1.kind e.0 r Changes) (heads_changes (at c) r Changes is)
-      (are_told (at c) e.1.kind e.0 r (index_named e.0 (get m.indexes e.0) refl first) row (document_few e.0 r row (get m.indexes e.0) refl first))
-      (all_told r row is (λ j among. each_on j (or_right (same_list j e.0) (is_any_of j (map (λ (e : List ℕ × IndexHead). e.0) is)) among)))
+  notes_are : (r : ℤ) → is_some (row_at m.tables t r) ≡ true → IsRow r → AreChanges (notes r)
+  notes_are r there row =
+      let awaits : AwaitsTurn m.tables m.tables t r = record { rules = stands.state.tables; alike = λ q. refl; row = refl } in
+      let next = is_step m.tables r (turn m.tables r there awaits) awaits in
+      subst AreChanges (kind_notes_are r)
+      (subst (λ (d : RowChange). AreChanges (each (row_changes_at kinds (at c) m.indexes (table_at m.tables t).columns d) names)) (sym next.told)
+      (notes_are_keys (at c) m.tables (step m.tables r) m.indexes t r (indexes_hold c m stands) next.rules next.differ row (table_at m.tables t).columns (looks_at_any kinds places) names on))
 
   updates_are : (rows : List ℤ) → ((r : ℤ) → IsIn r rows → is_some (row_at m.tables t r) ≡ true) → AreChanges (update_changes c m t columns assigns es rows)
   updates_are [] there = tt
@@ -277,7 +247,7 @@ module _ (c : Content) (m : StoreState) (t : List ℕ) (x : Table) (assigns : Li
       are-append (own r ++ notes r) (update_changes c m t columns assigns es rows)
       (are-append (own r) (notes r)
       (are_insert t r (numbers_after columns assigns (numbers_of (row_values m.tables t r))) (texts_set 1 columns assigns) (stands.state.tables.names t x here) row (set_places assigns 1 columns (omega (arith, few, fewer))))
-      (all_told r row es (λ i among. sym (on.each i) ∙ among)))
+      (notes_are r (there r (inl refl)) row))
       (updates_are rows (λ s later. there s (inr later)))
     where
       few_others : (cs : List Column) → length (others cs) ≤ length cs
@@ -287,20 +257,19 @@ module _ (c : Content) (m : StoreState) (t : List ℕ) (x : Table) (assigns : Li
   -- ---- the state
 
   module _ (rows : List ℤ) (distinct : AreApart rows) (there : (r : ℤ) → IsIn r rows → is_some (row_at m.tables t r) ≡ true) where
-    abbrev told : ℤ → List (Key × Option (List ℕ))
-    told r = own r ++ each (row_changes_at kinds (at c) m.indexes (table_at m.tables t).columns (change r)) names
+    as_told : each (λ r. own r ++ kind_notes r) rows ≡ update_changes c m t columns assigns es rows
+    as_told = λ j. each (λ r. own r ++ kind_notes_are r j) rows
 
-    as_told : each told rows ≡ update_changes c m t columns assigns es rows
-    as_told =
-        each_among told (λ r. own r ++ notes r) rows
-        (λ r among. ap (λ (ws : List (Key × Option (List ℕ))). own r ++ ws) (notes_are (at c) m.indexes (table_at m.tables t).columns (change r) Changes (there r among, refl) es own_heads))
+    -- a row leaves to an index at which columns it looks
+    stays : (d : RowChange) (n : ℕ) (y : Index) → looks_at_any kinds places (by_row kinds d n y) ≡ looks_at_any kinds places y
+    stays d n y = λ j. list_any (λ (column : ℕ). (kinds_laws.rows.same d n y).looks column j) places
 
     hold : IndexesHold kinds (view (update_changes c m t columns assigns es rows) (at c)) (tables_after step m.tables rows) (indexes_after kinds (looks_at_any kinds places) step m.tables t rows m.indexes)
     hold =
         subst (λ (ws : List (Key × Option (List ℕ))). IndexesHold kinds (view ws (at c)) (tables_after step m.tables rows) (indexes_after kinds (looks_at_any kinds places) step m.tables t rows m.indexes)) as_told
-        (rows_in_turn kinds context_laws (looks_at_any kinds places) (λ y b. refl) t names (at c) m.indexes m.tables step change (λ r. refl) is_of_tables own
+        (rows_in_turn kinds kinds_laws (looks_at_any kinds places) stays t names (at c) m.indexes m.tables step change (λ r. refl) is_of_tables own
         (λ r. all_insert t r (numbers_after columns assigns (numbers_of (row_values m.tables t r))) (texts_set 1 columns assigns)) apart
-        rows (are_steps rows there) distinct (λ r among. row_is_row m.tables stands.state.tables t r (there r among)) on (record { tables = stands.state.tables; rules = stands.state.indexes; stand = stands.indexes }))
+        rows (are_steps rows there) distinct (λ r among. row_is_row m.tables stands.state.tables t r (there r among)) on (indexes_hold c m stands))
 
     views_stay : (q : List ℕ) (y : Table) → get (tables_after step m.tables rows) q ≡ Some y → is_view q ≡ false
     views_stay q y is =

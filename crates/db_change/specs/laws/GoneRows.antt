@@ -1,11 +1,12 @@
 -- The state after rows went.
-use Rattle.std.proofs.Common.{◌≡◌, ℕ, ℤ, ◌≤◌, Bool, true, false, cond, List, [], ◌∷◌, ◌++◌, Option, Some, None, refl, sym, ap, subst, ◌∙◌, inl, inr, arith}
+use Rattle.std.proofs.Common.{◌≡◌, ℕ, ℤ, ◌+◌, ◌≤◌, Bool, true, false, cond, List, [], ◌∷◌, ◌++◌, Option, Some, None, refl, sym, ap, subst, ◌∙◌, inl, inr, arith}
 use Rattle.std.specs.Prelude.{is_some, ◌&&◌}
 use Rattle.std.specs.Option.{option_map}
 use Rattle.std.specs.Ordering.{int_eq, nat_cmp, eq_by_cmp}
 use Rattle.std.specs.Cmp.Lexicographic.{slice_cmp}
 use Rattle.std.specs.FinMap.{get, remove, get-remove}
 use Rattle.std.proofs.lemmas.Cmp.{nat_list_cmp_total}
+use Rattle.ct_base.specs.declared.lists.Value.{Value}
 use Rattle.ct_keep.specs.Content.{Content, set_to, after, changes_weight, value_weight}
 use Rattle.ct_entry.specs.declared.kinds.Kind.{Kind}
 use Rattle.ct_entry.specs.declared.kinds.Kind.TheVariants as kind
@@ -25,40 +26,33 @@ use Rattle.tb_table.specs.laws.Removals.{get-without_row, row_at-without_row, co
 use Rattle.tb_table.specs.laws.Rules.{delete_keeps}
 use Rattle.ix_docmap.specs.Changes.{gone_changes}
 use Rattle.ix_docmap.specs.Readings.{document_at}
-use Rattle.ix_docmap.specs.laws.Documents.{is_of_map}
-use Rattle.db_names.specs.declared.heads.IndexKind.{IndexKind}
-use Rattle.db_names.specs.declared.heads.IndexKind.TheVariants.{Context, Catalogue, Rules}
-use Rattle.db_names.specs.declared.heads.IndexHead.{IndexHead}
+use Rattle.cat_index.specs.Catalogues.{filing}
+use Rattle.cat_index.specs.Changes.{in_each, words_change}
 use Rattle.ix_kinds.specs.Rows.{table_at, RowChange}
 use Rattle.ix_kinds.specs.Statements.{tables_after, every, indexes_after, row_changes_at}
 use Rattle.ix_kinds.specs.RowSteps.{AreSteps, IndexesHold}
 use Rattle.ix_kinds.specs.laws.Tables.{differs, row_now}
 use Rattle.ix_kinds.specs.laws.Turns.{row_is_row, rows_in_turn}
 use Rattle.ix_indexes.specs.Indexes.{kinds, IndexesStand}
-use Rattle.ix_indexes.specs.declared.noting.RowEvent.TheVariants.{Goes}
-use Rattle.ix_indexes.specs.Noting.{kind_changes, heads_changes}
-use Rattle.ix_indexes.specs.laws.Noting.{each_among}
+use Rattle.ix_indexes.specs.Noting.{Noted, InContext, InCatalogue, all_noted_changes, noted_changes}
 use Rattle.tx_prefs.specs.Spelling.{PreferencesStand}
 use Rattle.tx_prefs.specs.laws.Changes.{preferences_frame, other_kinds}
 use Rattle.th_store.specs.laws.Changes.{thesauri_unchanged}
 use Rattle.db_state.specs.laws.ShortRows.{rows_frame}
-use Rattle.db_state.specs.laws.Kinds.{tables_no_map}
+use Rattle.db_state.specs.laws.Kinds.{tables_no_noted}
 use Rattle.db_state.specs.States.{StoreState, StandsForState, HasShortRows, is_of_rows, is_view, is_built, index_limit}
-use Rattle.db_change.specs.Deleting.{gone_row_changes, gone_rows_changes, without_rows}
+use Rattle.db_change.specs.Noting.{names_on, noted_on}
+use Rattle.db_change.specs.Deleting.{AllDrop, going, gone_row_changes, gone_rows_changes, without_rows}
 use Rattle.db_change.specs.laws.IndexCounts.{few_after}
-use Rattle.db_change.specs.laws.NewRows.{heads_on, names_on, own_heads, names_on_table}
+use Rattle.db_change.specs.laws.NewRows.{indexes_hold, names_on_table}
 use Rattle.db_change.specs.laws.NewTables.{apart}
-use Rattle.ix_context.specs.laws.ContextCreates.{context_laws}
 use Rattle.ix_context.specs.laws.ContextRows.{all_weaker}
-use Rattle.ix_indexes.specs.laws.Noting.{notes_of_map, notes_are}
+use Rattle.ix_indexes.specs.laws.Indexes.{kinds_laws}
+use Rattle.ix_indexes.specs.laws.Noting.{is_noted, notes_are_changes, notes_of}
 
 -- ---- changes that only take entries away
 
-abbrev pub AllDrop : {A : Type 0} → List (A × Option (List ℕ)) → Type 0
-AllDrop [] = Unit {0}
-AllDrop (w ∷ ws) = (w.1 ≡ None) × AllDrop ws
-
-drop-append : {A : Type 0} (xs ys : List (A × Option (List ℕ))) → AllDrop xs → AllDrop ys → AllDrop (xs ++ ys)
+pub drop-append : {A : Type 0} (xs ys : List (A × Option (List ℕ))) → AllDrop xs → AllDrop ys → AllDrop (xs ++ ys)
 drop-append [] ys a b = b
 drop-append (x ∷ xs) ys a b = (a.0, drop-append xs ys a.1 b)
 
@@ -66,10 +60,14 @@ drop_each : {I : Type 0} (changes : I → List (Key × Option (List ℕ))) → (
 drop_each changes one [] = tt
 drop_each changes one (i ∷ is) = drop-append (changes i) (each changes is) (one i) (drop_each changes one is)
 
+pub drop_spelt : (ws : List (Key × Option (List ℕ))) → AllDrop ws → AllDrop (spell ws)
+drop_spelt [] all = tt
+drop_spelt (w ∷ ws) all = (all.0, drop_spelt ws all.1)
+
 -- they weigh nothing
-pub drops_weigh_nothing : (ws : List (Key × Option (List ℕ))) → AllDrop ws → changes_weight (spell ws) ≡ 0
+pub drops_weigh_nothing : (ws : List (List ℕ × Option (List ℕ))) → AllDrop ws → changes_weight ws ≡ 0
 drops_weigh_nothing [] all = refl
-drops_weigh_nothing (w ∷ ws) all = let first : value_weight (bytes w.0) w.1 ≡ 0 = ap (value_weight (bytes w.0)) all.0 in let rest = drops_weigh_nothing ws all.1 in omega (arith, first, rest)
+drops_weigh_nothing (w ∷ ws) all = let first : value_weight w.0 w.1 ≡ 0 = ap (value_weight w.0) all.0 in let rest = drops_weigh_nothing ws all.1 in omega (arith, first, rest)
 
 -- and leave no other entries than there were
 only_set : (m : Content) (j : List ℕ) (o : Option (List ℕ)) → o ≡ None → HasKeysOnly m → HasKeysOnly (set_to j o m)
@@ -90,20 +88,35 @@ drop_gone : (i : List ℕ) (r : ℤ) (o : Option ℕ) → AllDrop (gone_changes 
 drop_gone i r None = (refl, tt)
 drop_gone i r (Some d) = (refl, (refl, tt))
 
-drop_kind : (f : Key → Option (List ℕ)) (kind : IndexKind) (i : List ℕ) (r : ℤ) → AllDrop (kind_changes f kind i r Goes)
-drop_kind f Context i r = drop_gone i r (document_at f i r)
-drop_kind f Catalogue i r = tt
-drop_kind f Rules i r = tt
+drop_words : (i : List ℕ) (r : ℤ) (n : ℕ) (words : List (List ℕ)) (v : List ℕ) → AllDrop (words_change i r n words false v)
+drop_words i r n [] v = tt
+drop_words i r n (w ∷ ws) v = (refl, drop_words i r n ws v)
+
+drop_values : (i : List ℕ) (r : ℤ) (n : ℕ) (words vs : List (List ℕ)) → AllDrop (in_each (λ sub v. words_change i r sub words false v) n vs)
+drop_values i r n words [] = tt
+drop_values i r n words (v ∷ vs) = drop-append (words_change i r n words false v) (in_each (λ sub v. words_change i r sub words false v) (n + 1) vs) (drop_words i r n words v) (drop_values i r (n + 1) words vs)
+
+drop_one : (f : Key → Option (List ℕ)) (r : ℤ) (old : Option (List Value)) (i : List ℕ) (n : Noted) → AllDrop (noted_changes f (going r old) i n)
+drop_one f r None i (InContext column) = tt
+drop_one f r (Some vs) i (InContext column) = drop_gone i r (document_at f i r)
+drop_one f r None i (InCatalogue x) = tt
+drop_one f r (Some vs) i (InCatalogue x) = drop_values i r 0 (filing x r vs).words (filing x r vs).values
+
+-- what indexes are told of a row that goes
+pub notes_drop : (f : Key → Option (List ℕ)) (r : ℤ) (old : Option (List Value)) (es : List (List ℕ × Noted)) → AllDrop (all_noted_changes f (going r old) es)
+notes_drop f r old es = drop_each (λ (e : List ℕ × Noted). noted_changes f (going r old) e.0 e.1) (λ e. drop_one f r old e.0 e.1) es
 
 drop_texts_of : (t : List ℕ) (r : ℤ) (places : List ℕ) → AllDrop (drop_texts t r places)
 drop_texts_of t r [] = tt
 drop_texts_of t r (p ∷ ps) = (refl, drop_texts_of t r ps)
 
-pub rows_drop : (f : Key → Option (List ℕ)) (t : List ℕ) (columns : List Column) (es : List (List ℕ × IndexHead)) (rows : List ℤ) → AllDrop (gone_rows_changes f t columns es rows)
-rows_drop f t columns es rows =
-    drop_each (gone_row_changes f t columns es)
-    (λ r. drop-append (delete_changes t columns r) (heads_changes f r Goes es) (refl, drop_texts_of t r (text_places columns))
-    (drop_each (λ (e : List ℕ × IndexHead). kind_changes f e.1.kind e.0 r Goes) (λ e. drop_kind f e.1.kind e.0 r) es))
+pub delete_drops : (t : List ℕ) (columns : List Column) (r : ℤ) → AllDrop (delete_changes t columns r)
+delete_drops t columns r = (refl, drop_texts_of t r (text_places columns))
+
+rows_drop : (f : Key → Option (List ℕ)) (ts : Tables) (t : List ℕ) (columns : List Column) (es : List (List ℕ × Noted)) (rows : List ℤ) → AllDrop (gone_rows_changes f ts t columns es rows)
+rows_drop f ts t columns es rows =
+    drop_each (gone_row_changes f ts t columns es)
+    (λ r. drop-append (delete_changes t columns r) (all_noted_changes f (going r (row_at ts t r)) es) (delete_drops t columns r) (notes_drop f r (row_at ts t r) es))
     rows
 
 -- the kinds of the entries that go with a row
@@ -113,22 +126,26 @@ is_of_row kind.RowTexts = true
 is_of_row kind.DocumentRows = true
 is_of_row kind.RowDocuments = true
 is_of_row kind.Pending = true
+is_of_row kind.Catalogue = true
 is_of_row k = false
 
-map_of_row : (k : Kind) → is_of_map k ≡ true → is_of_row k ≡ true
-map_of_row kind.DocumentRows h = refl
-map_of_row kind.RowDocuments h = refl
-map_of_row kind.Pending h = refl
-map_of_row k h = cc
+noted_of_row : (k : Kind) → is_noted k ≡ true → is_of_row k ≡ true
+noted_of_row kind.DocumentRows h = refl
+noted_of_row kind.RowDocuments h = refl
+noted_of_row kind.Pending h = refl
+noted_of_row kind.Catalogue h = refl
+noted_of_row k h = cc
 
 all_texts : (t : List ℕ) (r : ℤ) (places : List ℕ) → AllOf is_of_row (drop_texts t r places)
 all_texts t r [] = tt
 all_texts t r (p ∷ ps) = (refl, all_texts t r ps)
 
-all_rows : (f : Key → Option (List ℕ)) (t : List ℕ) (columns : List Column) (es : List (List ℕ × IndexHead)) (rows : List ℤ) → AllOf is_of_row (gone_rows_changes f t columns es rows)
-all_rows f t columns es rows =
-    all_each is_of_row (gone_row_changes f t columns es)
-    (λ r. all-append is_of_row (delete_changes t columns r) (heads_changes f r Goes es) (refl, all_texts t r (text_places columns)) (all_weaker is_of_map is_of_row map_of_row (heads_changes f r Goes es) (notes_of_map f r Goes es)))
+all_rows : (f : Key → Option (List ℕ)) (ts : Tables) (t : List ℕ) (columns : List Column) (es : List (List ℕ × Noted)) (rows : List ℤ) → AllOf is_of_row (gone_rows_changes f ts t columns es rows)
+all_rows f ts t columns es rows =
+    all_each is_of_row (gone_row_changes f ts t columns es)
+    (λ r.
+    let c = going r (row_at ts t r) in
+    all-append is_of_row (delete_changes t columns r) (all_noted_changes f c es) (refl, all_texts t r (text_places columns)) (all_weaker is_noted is_of_row noted_of_row (all_noted_changes f c es) (notes_of f c es)))
     rows
 
 row_built : (k : Kind) → is_built k ≡ false → is_of_row k ≡ false
@@ -137,6 +154,7 @@ row_built kind.RowTexts h = cc
 row_built kind.DocumentRows h = cc
 row_built kind.RowDocuments h = cc
 row_built kind.Pending h = cc
+row_built kind.Catalogue h = cc
 row_built k h = refl
 
 row_rows : (k : Kind) → is_of_rows k ≡ true → is_of_row k ≡ false
@@ -145,6 +163,7 @@ row_rows kind.RowTexts h = cc
 row_rows kind.DocumentRows h = cc
 row_rows kind.RowDocuments h = cc
 row_rows kind.Pending h = cc
+row_rows kind.Catalogue h = cc
 row_rows k h = refl
 
 -- ---- the tables
@@ -158,7 +177,7 @@ still_there ts t x r here =
     ∙ ap (λ (b : Bool). cond b (option_map (λ (y : Table). record y { rows = remove y.rows r }) (get ts t)) (get ts t)) (list_same t)
     ∙ ap (option_map (λ (y : Table). record y { rows = remove y.rows r })) here
 
-tables_without : (f : Key → Option (List ℕ)) (ts : Tables) (t : List ℕ) (x : Table) (notes : ℤ → List (Key × Option (List ℕ))) → ((r : ℤ) → AllOf is_of_map (notes r)) → (rows : List ℤ)
+tables_without : (f : Key → Option (List ℕ)) (ts : Tables) (t : List ℕ) (x : Table) (notes : ℤ → List (Key × Option (List ℕ))) → ((r : ℤ) → AllOf is_noted (notes r)) → (rows : List ℤ)
     → get ts t ≡ Some x → AreTables ts → ((r : ℤ) → IsIn r rows → IsRow r) → TablesStand f ts
     → TablesStand (view (each (λ r. delete_changes t x.columns r ++ notes r) rows) f) (tables_after (lose_row t) ts rows)
 tables_without f ts t x notes all [] here are each_row stand = stand
@@ -168,7 +187,7 @@ tables_without f ts t x notes all (r ∷ rows) here are each_row stand =
     let us = without_row ts t r in
     let one : TablesStand (view (a ++ b) f) us =
     subst (λ (g : Key → Option (List ℕ)). TablesStand g us) (sym (view-append a b f))
-    (tables_frame is_of_map b (view a f) us (all r) tables_no_map (stand_delete f ts t r x here are (each_row r (inl refl)) stand)) in
+    (tables_frame is_noted b (view a f) us (all r) tables_no_noted (stand_delete f ts t r x here are (each_row r (inl refl)) stand)) in
     subst (λ (g : Key → Option (List ℕ)). TablesStand g (tables_after (lose_row t) us rows)) (sym (view-append (a ++ b) (each (λ r. delete_changes t x.columns r ++ notes r) rows) f))
     (tables_without (view (a ++ b) f) us t (record x { rows = remove x.rows r }) notes all rows (still_there ts t x r here) (delete_keeps ts t r are) (λ s later. each_row s (inr later)) one)
 
@@ -187,11 +206,7 @@ no_views m t rows views q y is = go (get m.tables q) refl (sym (same_columns m.t
 
 -- ---- the indexes
 
--- a row as DELETE tells of it
-abbrev pub going : StoreState → List ℕ → ℤ → RowChange
-going m t r = record { row = r; old = row_at m.tables t r; new = None }
-
-loses_each : (m : StoreState) (t : List ℕ) (rows : List ℤ) → AreSteps kinds (every kinds) m.tables (lose_row t) t (going m t) rows
+loses_each : (m : StoreState) (t : List ℕ) (rows : List ℤ) → AreSteps kinds (every kinds) m.tables (lose_row t) t (λ r. going r (row_at m.tables t r)) rows
 loses_each m t rows ts r among awaits = record {
   rules = delete_keeps ts t r awaits.rules;
   differ = differs ts (without_row ts t r) t r None (columns-without_row ts t r) each;
@@ -211,30 +226,32 @@ loses_each m t rows ts r among awaits = record {
 -- after these rows of a table went, each of which is there once
 pub gone_rows_stand : (c : Content) (m : StoreState) (t : List ℕ) (x : Table) (rows : List ℤ) → StandsForState c m → get m.tables t ≡ Some x
     → AreApart rows → ((r : ℤ) → IsIn r rows → is_some (row_at m.tables t r) ≡ true)
-    → StandsForState (after (spell (gone_rows_changes (at c) t x.columns (heads_on m.indexes t) rows)) c) (without_rows m t rows)
+    → StandsForState (after (spell (gone_rows_changes (at c) m.tables t x.columns (noted_on m.indexes t) rows)) c) (without_rows m t rows)
 gone_rows_stand c m t x rows stands here once there =
-    let es = heads_on m.indexes t in
+    let es = noted_on m.indexes t in
     let names = names_on m.indexes t in
-    let ws = gone_rows_changes (at c) t x.columns es rows in
+    let ws = gone_rows_changes (at c) m.tables t x.columns es rows in
     let seen = at_view ws c in
+    let change : ℤ → RowChange = λ r. going r (row_at m.tables t r) in
+    let columns = (table_at m.tables t).columns in
     let is_row : (r : ℤ) → IsIn r rows → IsRow r = λ r among. row_is_row m.tables stands.state.tables t r (there r among) in
     let told =
-    rows_in_turn kinds context_laws (every kinds) (λ x b. refl) t names (at c) m.indexes m.tables (lose_row t) (going m t) (λ r. refl) is_of_tables (λ r. delete_changes t x.columns r) (λ r. all_delete t x.columns r) apart
-    rows (loses_each m t rows) once is_row (names_on_table m.indexes t) (record { tables = stands.state.tables; rules = stands.state.indexes; stand = stands.indexes }) in
-    let same : each (λ r. delete_changes t x.columns r ++ each (row_changes_at kinds (at c) m.indexes (table_at m.tables t).columns (going m t r)) names) rows ≡ ws =
-    each_among (λ r. delete_changes t x.columns r ++ each (row_changes_at kinds (at c) m.indexes (table_at m.tables t).columns (going m t r)) names) (gone_row_changes (at c) t x.columns es) rows
-    (λ r among. ap (λ (notes : List (Key × Option (List ℕ))). delete_changes t x.columns r ++ notes) (notes_are (at c) m.indexes (table_at m.tables t).columns (going m t r) Goes (there r among, refl) es (own_heads m.indexes t))) in
+    rows_in_turn kinds kinds_laws (every kinds) (λ c n y. refl) t names (at c) m.indexes m.tables (lose_row t) change (λ r. refl) is_of_tables (λ r. delete_changes t x.columns r) (λ r. all_delete t x.columns r) apart
+    rows (loses_each m t rows) once is_row (names_on_table m.indexes t) (indexes_hold c m stands) in
+    let same : each (λ r. delete_changes t x.columns r ++ each (row_changes_at kinds (at c) m.indexes columns (change r)) names) rows ≡ ws =
+    λ j. each (λ r. delete_changes t x.columns r ++ notes_are_changes (at c) m.indexes columns (change r) names j) rows in
     let hold : IndexesHold kinds (view ws (at c)) (tables_after (lose_row t) m.tables rows) (indexes_after kinds (every kinds) (lose_row t) m.tables t rows m.indexes) =
     subst (λ (ws : List (Key × Option (List ℕ))). IndexesHold kinds (view ws (at c)) (tables_after (lose_row t) m.tables rows) (indexes_after kinds (every kinds) (lose_row t) m.tables t rows m.indexes)) same told in
+    let all = all_rows (at c) m.tables t x.columns es rows in
     record {
-      only = drops_leave ws c (rows_drop (at c) t x.columns es rows) stands.only;
+      only = drops_leave ws c (rows_drop (at c) m.tables t x.columns es rows) stands.only;
       tables = subst (λ (f : Key → Option (List ℕ)). TablesStand f (tables_after (lose_row t) m.tables rows)) (sym seen)
-          (tables_without (at c) m.tables t x (λ r. heads_changes (at c) r Goes es) (λ r. notes_of_map (at c) r Goes es) rows here stands.state.tables (λ r among. row_is_row m.tables stands.state.tables t r (there r among)) stands.tables);
+          (tables_without (at c) m.tables t x (λ r. all_noted_changes (at c) (change r) es) (λ r. notes_of (at c) (change r) es) rows here stands.state.tables is_row stands.tables);
       indexes = subst (λ (f : Key → Option (List ℕ)). IndexesStand f (tables_after (lose_row t) m.tables rows) (indexes_after kinds (every kinds) (lose_row t) m.tables t rows m.indexes)) (sym seen) hold.stand;
-      unbuilt = λ k h. at-after ws c k ∙ told_frame is_of_row ws k (at c k) (all_rows (at c) t x.columns es rows) (row_built k.kind h) ∙ stands.unbuilt k h;
-      preferences = subst (λ (f : Key → Option (List ℕ)). PreferencesStand f m.preferences) (sym seen) (preferences_frame is_of_row ws (at c) m.preferences (all_rows (at c) t x.columns es rows) (other_kinds is_of_row refl refl refl refl) stands.preferences);
-      thesauri = thesauri_unchanged is_of_row ws c m.thesauri (all_rows (at c) t x.columns es rows) refl refl stands.thesauri;
-      short_rows = subst HasShortRows (sym seen) (rows_frame is_of_row ws (at c) (all_rows (at c) t x.columns es rows) row_rows stands.short_rows);
+      unbuilt = λ k h. at-after ws c k ∙ told_frame is_of_row ws k (at c k) all (row_built k.kind h) ∙ stands.unbuilt k h;
+      preferences = subst (λ (f : Key → Option (List ℕ)). PreferencesStand f m.preferences) (sym seen) (preferences_frame is_of_row ws (at c) m.preferences all (other_kinds is_of_row refl refl refl refl) stands.preferences);
+      thesauri = thesauri_unchanged is_of_row ws c m.thesauri all refl refl stands.thesauri;
+      short_rows = subst HasShortRows (sym seen) (rows_frame is_of_row ws (at c) all row_rows stands.short_rows);
       state = record {
         tables = hold.tables;
         indexes = hold.rules;

@@ -35,7 +35,7 @@ use Rattle.db_change.specs.Dropping.{with_table_dropped, drop_table_changes}
 use Rattle.db_change.specs.laws.NewTables.{tables_built, rows_tables, apart}
 use Rattle.ix_kinds.specs.Standing.{is_of_indexes}
 use Rattle.ix_indexes.specs.Removing.{remove_all_changes}
-use Rattle.ix_context.specs.laws.ContextCreates.{context_laws}
+use Rattle.ix_indexes.specs.laws.Indexes.{kinds_laws}
 
 -- ---- the state keeps its rules
 
@@ -104,14 +104,14 @@ module _ (c : Content) (m : StoreState) (t : List ℕ) (names : List (List ℕ))
             (tables_frame is_of_indexes vs of_tables_gone (without_table m.tables t) (all_of_indexes c names) tables_no_indexes
             (stand_remove (at c) m.tables t c (record { table = λ rest. refl; numbers = λ rest. refl; texts = λ rest. refl }) stands.tables));
         indexes = subst (λ (f : Key → Option (List ℕ)). IndexesStand f (without_table m.tables t) (without_indexes_on m.indexes t)) (sym seen)
-            (drop_table_stands kinds context_laws (at c) all_gone m.tables (without_table m.tables t) m.indexes t loses (others_same m.tables t) stands.indexes);
+            (drop_table_stands kinds kinds_laws (at c) all_gone m.tables (without_table m.tables t) m.indexes t loses (others_same m.tables t) stands.indexes);
         preferences = subst (λ (f : Key → Option (List ℕ)). PreferencesStand f m.preferences) (sym seen) (preferences_frame is_of_indexes vs of_tables_gone m.preferences (all_of_indexes c names) (other_kinds is_of_indexes refl refl refl refl) (preferences_frame is_of_tables us (at c) m.preferences (all_remove t c) (other_kinds is_of_tables refl refl refl refl) stands.preferences));
         thesauri = subst (λ (f : Key → Option (List ℕ)). ThesauriStand f m.thesauri) (sym seen)
             (others_leave_thesauri is_of_indexes vs of_tables_gone m.thesauri (all_of_indexes c names) refl refl (others_leave_thesauri is_of_tables us (at c) m.thesauri (all_remove t c) refl refl stands.thesauri));
         short_rows = subst HasShortRows (sym seen) (rows_left of_tables_gone all_gone (λ k v has. told_all c names k (of_tables_gone k) v has) (rows_frame is_of_tables us (at c) (all_remove t c) rows_tables stands.short_rows));
         state = record {
           tables = remove_keeps m.tables t stands.state.tables;
-          indexes = drop_table_keeps kinds context_laws m.tables (without_table m.tables t) m.indexes t (others_same m.tables t) stands.state.indexes;
+          indexes = drop_table_keeps kinds kinds_laws m.tables (without_table m.tables t) m.indexes t (others_same m.tables t) stands.state.indexes;
           views = views_left m t stands.state.views;
           few = λ q. few_left m.indexes t q (stands.state.few q);
           preferences = stands.state.preferences;

@@ -39,8 +39,7 @@ use Rattle.db_state.specs.laws.ShortRows.{rows_frame}
 use Rattle.db_state.specs.States.{HasShortRows, is_of_rows, StoreState, StandsForState, is_view, is_built}
 use Rattle.std.proofs.lemmas.Bool.{or_parts as either, and_parts as both, not-true as not_true}
 use Rattle.ct_base.specs.laws.Options.{no_value as no_some}
-use Rattle.ix_context.specs.laws.ContextRows.{context_alone}
-use Rattle.ix_context.specs.laws.ContextCreates.{context_laws}
+use Rattle.ix_indexes.specs.laws.Indexes.{kinds_laws}
 
 -- No check of a new table holds.
 pub record IsFreeTable (m : StoreState) (t : List ℕ) (columns : List ColumnText) : Type 0 where
@@ -88,15 +87,15 @@ new_table_stands c m t columns stands none free name are few =
       only = only-after ws c stands.only (are_create t columns name);
       tables = subst (λ (f : Key → Option (List ℕ)). TablesStand f (with_table m.tables t columns)) (sym (at_view ws c)) (stand_create (at c) m.tables t columns none stands.tables);
       indexes = subst (λ (f : Key → Option (List ℕ)). IndexesStand f (with_table m.tables t columns) m.indexes) (sym (at_view ws c))
-          (indexes_frame kinds context_alone is_of_tables ws (at c) (with_table m.tables t columns) m.indexes (all_create t columns) apart
-          (table_stands kinds context_laws (at c) m.tables m.indexes t columns none stands.state.indexes stands.indexes));
+          (indexes_frame kinds kinds_laws.alone is_of_tables ws (at c) (with_table m.tables t columns) m.indexes (all_create t columns) apart
+          (table_stands kinds kinds_laws (at c) m.tables m.indexes t columns none stands.state.indexes stands.indexes));
       unbuilt = λ k h. at-after ws c k ∙ told_frame is_of_tables ws k (at c k) (all_create t columns) (tables_built k.kind h) ∙ stands.unbuilt k h;
       preferences = subst (λ (f : Key → Option (List ℕ)). PreferencesStand f m.preferences) (sym (at_view ws c)) (preferences_frame is_of_tables ws (at c) m.preferences (all_create t columns) (other_kinds is_of_tables refl refl refl refl) stands.preferences);
       thesauri = thesauri_unchanged is_of_tables ws c m.thesauri (all_create t columns) refl refl stands.thesauri;
       short_rows = subst HasShortRows (sym (at_view ws c)) (rows_frame is_of_tables ws (at c) (all_create t columns) rows_tables stands.short_rows);
       state = record {
         tables = create_keeps m.tables t columns stands.state.tables name are few;
-        indexes = table_keeps kinds context_laws m.tables m.indexes t columns none stands.state.indexes;
+        indexes = table_keeps kinds kinds_laws m.tables m.indexes t columns none stands.state.indexes;
         views = views_stay m t columns free stands.state.views;
         few = stands.state.few;
         preferences = stands.state.preferences;

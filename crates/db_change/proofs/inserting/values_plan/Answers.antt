@@ -38,7 +38,7 @@ returns-clause-plan g c = λ m k x holds stands here columns.
     let many = c.in_ok-many.ensures.many m k x (reads_hold _ _ k c.in_ok-taken.ensures.reads holds) stands here in
     let free = subst (λ (vs : List Operand). IsFreeRow x vs key) c.as_slice-slice.ensures.value (values_free m t x slice c.in_ok-taken.taken c.in_ok-many.many c.args.columns.now taken many columns (c.in_default.ensures.checks few) key is) in
     let after = reads_hold _ _ k (reads_on _ _ _ _ c.in_ok-taken.ensures.reads c.in_ok-many.ensures.reads) holds in
-    let made = c.in_ok-batch.ensures.batch m k x after stands here free in (
+    let made = c.in_ok-batch.ensures.batch m k x after stands here columns free in (
       _,
       subst (λ (vs : List Operand). insert_values m t x vs ≡ Does (with_new_row m t key (others_kept vs)) row_created) c.as_slice-slice.ensures.value
           (values_inserted m t x slice c.in_ok-taken.taken c.in_ok-many.many c.args.columns.now taken many columns (c.in_default.ensures.checks few) key is),

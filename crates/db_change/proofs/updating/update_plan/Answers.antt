@@ -1,12 +1,11 @@
-use Rattle.std.proofs.Common.{arith, ◌≡◌, List, length, map, ap, sym, ◌∙◌}
+use Rattle.std.proofs.Common.{arith, ◌≡◌, List, length, map, ap, subst, sym, ◌∙◌}
 use Rattle.std.proofs.lemmas.List.{length-map}
 use Rattle.ct_base.specs.declared.numbers.RowKey.{RowKey}
 use Rattle.ct_keep.specs.laws.Composing.{reads_on, reads_hold}
-use Rattle.ct_entry.specs.Changes.{spell}
-use Rattle.tb_table.specs.Rules.{others}
-use Rattle.db_change.specs.Updating.{indexes_set, update_changes}
+use Rattle.db_change.specs.Updating.{UpdatesTable}
 use Rattle.tb_table.specs.declared.columns.Column.{Column}
 use Rattle.db_change.proofs.ReadTables.{has_columns}
+use Rattle.db_change.proofs.GoneSteps.{met_are_there}
 use Rattle.db_change.proofs.UpdatePlans.{update_made}
 use Rattle.db_change.proofs.updating.update_plan.Goals as goal
 
@@ -21,6 +20,6 @@ returns-clause-plan g c = record {
       let counted : c.len.result ≡ length c.in_ok-rows.rows.items = omega (arith, c.len.ensures) in
       update_made m c.args.table.now c.args.assigns.now c.args.conds.now x.table c.deref.result.now x.there x.same k stands (c.in_default-update_fault.ensures.checks x.few) c.keep_assigns.ensures rows rows_are c.len.result
       (counted ∙ ap length (sym c.deref-4.ensures.value) ∙ sym (length-map c.deref-4.result.now (λ (row : RowKey). row.0))) c.in_ok-batch.batch
-      (c.in_ok-batch.ensures.batch m k mid stands
-      ∙ ap (λ (cs : List Column). spell (update_changes k m c.args.table.now (others cs) c.args.assigns.now (indexes_set m c.args.table.now cs c.args.assigns.now) rows)) (c.deref-3.ensures.value ∙ sym c.deref.ensures.value));
+      (subst (λ (cs : List Column). UpdatesTable k m c.args.table.now cs c.args.assigns.now rows c.in_ok-batch.batch) (c.deref-3.ensures.value ∙ sym c.deref.ensures.value)
+      (c.in_ok-batch.ensures.batch m k x.table mid stands x.there (x.same ∙ c.deref.ensures.value ∙ sym c.deref-3.ensures.value) (met_are_there m c.args.table.now x.table c.args.conds.now c.deref-4.result.now x.there rows_are)));
 }
