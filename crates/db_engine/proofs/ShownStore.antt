@@ -1,9 +1,9 @@
 -- The store that docs/STORE.md shows stands for its state, by the laws of the five statements that lead there.
-use Rattle.std.proofs.Common.{◌≡◌, ℕ, ℤ, pos, negsuc, ◌<◌, ◌+◌, Bool, true, false, List, [], ◌∷◌, ◌++◌, length, map, Option, Some, None, refl, sym, ap, subst, ◌∙◌, arith}
+use Rattle.std.proofs.Common.{◌≡◌, ℕ, ℤ, pos, negsuc, ◌<◌, ◌+◌, Bool, true, false, inl, List, [], ◌∷◌, ◌++◌, length, map, Option, Some, None, refl, sym, ap, subst, ◌∙◌, arith}
 use Rattle.std.specs.Prelude.{◌||◌, not, nat_le, nat_lt, is_some, filter, codes, sum_by, T}
 use Rattle.std.specs.List.{list_any}
 use Rattle.std.specs.Int.{to_be_bytes, w32}
-use Rattle.std.specs.Option.{option_and_then}
+use Rattle.std.specs.Option.{option_and_then, option_map}
 use Rattle.std.specs.declared.cmp.Ordering.{Ordering}
 use Rattle.std.specs.Ordering.{nat_cmp, int_cmp}
 use Rattle.std.specs.Cmp.{IsTotalOrder}
@@ -41,7 +41,7 @@ use Rattle.ix_docmap.specs.Marks.{Mark, Pending, Settled}
 use Rattle.ix_kinds.specs.Rows.{RowChange, table_or_none, table_at, row_change}
 use Rattle.ix_kinds.specs.Statements.{every, after_row_on, indexes_after_row, index_after_sync, indexes_after_sync, new_index, with_index}
 use Rattle.ix_kinds.specs.laws.Tables.{row_now}
-use Rattle.ix_context.specs.Indexes.{Part, in_queue, is_key_in, part_with_marks, no_part, settled_rows, all_settled, mark_limit, texts_in, rows_within}
+use Rattle.ix_context.specs.Indexes.{ContextIndex, Part, in_queue, is_key_in, part_with_marks, no_part, settled_rows, all_settled, mark_limit, texts_in, rows_within}
 use Rattle.ix_posting.specs.Forms.{counted_bytes, number_form}
 use Rattle.ix_rows.specs.Growing.{Growing, nothing_yet, with_grown_document, grown_rows}
 use Rattle.ix_rows.specs.RowMaps.{TermRowsView, or_nothing, with_posting, row_changes, row_map_changes}
@@ -53,7 +53,9 @@ use Rattle.ix_context.specs.Gathering.{nothing_gathered, with_text, with_entries
 use Rattle.ix_context.specs.laws.Gathered.{gathered_postings}
 use Rattle.ix_context.specs.Postings.{fox_and_quick}
 use Rattle.ix_context.specs.Spelling.{index_bytes}
-use Rattle.ix_indexes.specs.Indexes.{Index, kinds, pending_rows}
+use Rattle.ix_kinds.specs.Indextypes.{IndexOf}
+use Rattle.ix_indexes.specs.Indexes.{Index, as_index, kinds, pending_rows}
+use Rattle.ix_indexes.specs.Noting.{InContext, Noted, noted_at, noted_named}
 use Rattle.ct_entry.specs.Each.{each}
 use Rattle.st_parse.specs.declared.statements.Arg.TheVariants.{Text as TextArg}
 use Rattle.st_parse.specs.declared.statements.Operand.{Operand}
@@ -67,7 +69,7 @@ use Rattle.db_state.specs.Effects.{Effect, Does, refuse, with_found, state_by}
 use Rattle.db_state.specs.Lines.{call_done}
 use Rattle.tx_prefs.specs.Preferences.{no_preferences}
 use Rattle.th_store.specs.Thesauri.{no_thesauri}
-use Rattle.db_state.specs.States.{StoreState, StandsForState, empty_state, is_view, index_limit, indexes_on}
+use Rattle.db_state.specs.States.{StoreState, StandsForState, empty_state, is_view, index_limit}
 use Rattle.db_state.specs.Room.{room, its_room}
 use Rattle.db_state.specs.laws.EachValue.{entries-each_value, entries-from_rising}
 use Rattle.db_state.specs.laws.Empty.{empty_stands}
@@ -75,11 +77,13 @@ use Rattle.db_state.specs.laws.Heads.{store_heads, store_head}
 use Rattle.db_change.specs.Creating.{check_table, table_created, with_new_table}
 use Rattle.db_change.specs.Inserting.{arranged, check_list, check_row_values, has_row, insert_row, insert_values, key_in, others_kept, row_created}
 use Rattle.db_change.specs.laws.NewTables.{AllNamed, IsFreeTable, created_table_stands}
-use Rattle.db_change.specs.laws.NewRows.{heads_on, new_row_changes, new_row_stands}
-use Rattle.tx_settings.specs.declared.preferences.Prefs.{Prefs}
+use Rattle.db_change.specs.Noting.{heads_on, noted_on}
+use Rattle.db_change.specs.laws.NewRows.{new_row_changes, new_row_stands}
 use Rattle.db_state.specs.Lookups.{is_on_column}
-use Rattle.db_index.specs.Indexing.{IsFreeIndex, all_rows, check_index, create_index_by, index_created, requests_in, target, has_too_many_rows, has_index_on, with_new_index}
-use Rattle.db_index.specs.Syncing.{check_sync, has_too_many, sync_found, sync_named, unknown_name, with_synced}
+use Rattle.db_index.specs.declared.kinds.BuiltKind.TheVariants as built
+use Rattle.db_index.specs.Asking.{as_wanted, requests_in}
+use Rattle.db_index.specs.Indexing.{IsFreeIndex, all_rows, check_index, create_index_by, index_created, target, has_too_many_rows, has_index_on, passes_limit, with_new_index}
+use Rattle.db_index.specs.Syncing.{has_too_many, sync_as_kind, sync_found, with_synced}
 use Rattle.db_index.specs.laws.NewMarks.{new_index_stands, synced_stands}
 use Rattle.db_engine.specs.Steps.{effect}
 use Rattle.db_engine.specs.ShownStore.{shown_columns, table_statement, index_statement, first_values, sync_statement, second_values, shown_statements, after_all, shown_entries, shown_store, shown_state}
@@ -123,8 +127,12 @@ Its = Mark (Unit {0})
 abbrev part_with : ℕ → Part
 part_with given = record { given = given; tidiness = Untidy; waste = 0 }
 
+-- as one of its kind, and as one of all kinds
+abbrev as_context : Part → Rows Its → IndexOf ContextIndex
+as_context part marks = record { table = docs; column = 1; prefs = default_prefs; body = record { part = part; marks = marks } }
+
 abbrev context_of : Part → Rows Its → Index
-context_of part marks = record { table = docs; column = 1; prefs = default_prefs; body = record { part = part; marks = marks } }
+context_of part marks = as_index (as_context part marks)
 
 abbrev index_of : ℕ → Rows Its → Index
 index_of given marks = context_of (part_with given) marks
@@ -194,24 +202,29 @@ no_row_yet =
     ap (λ (x : Table). rows_within x all_rows) (the_table [])
     ∙ ap (λ (es : List (ℤ × List Value)). filter (is_key_in all_rows) (map (λ e. e.0) es)) (entries-from_sorted int_cmp [] tt)
 
-index_free : IsFreeIndex without_index di docs (table_with []) 1
+index_free : IsFreeIndex without_index di docs built.Context (table_with []) 1 (as_wanted default_prefs [])
 index_free = record {
   there = table_there [];
   free =
       ap (λ (o : Option Index). is_some o || has_index_on Context (empty {X = Index} {R = slice_cmp nat_cmp}) docs 1) (get-empty (slice_cmp nat_cmp) di)
       ∙ ap (λ (es : List (List ℕ × Index)). list_any (λ (e : List ℕ × Index). is_on_column Context docs 1 e.1) es) (nothing (slice_cmp nat_cmp) nat_list_cmp_total);
   texts = refl;
+  subs = refl;
+  sections = tt;
   few =
-      ap (λ (es : List (List ℕ × Index)). nat_le index_limit (length (filter (λ (e : List ℕ × Index). same_list e.1.table docs) es)) || has_too_many_rows without_index docs) (nothing (slice_cmp nat_cmp) nat_list_cmp_total)
+      ap (λ (es : List (List ℕ × Index)). nat_le index_limit (length (filter (λ (e : List ℕ × Index). same_list e.1.table docs) es)) || has_too_many_rows without_index docs built.Context (as_wanted default_prefs [])) (nothing (slice_cmp nat_cmp) nat_list_cmp_total)
       ∙ ap (λ (rs : List ℤ). not (nat_le (length rs) mark_limit)) no_row_yet;
 }
 
-abbrev settling : List ℤ → Index
-settling rows = context_of (part_with_marks (length rows) no_part) (settled_rows rows)
+abbrev settling_context : List ℤ → IndexOf ContextIndex
+settling_context rows = as_context (part_with_marks (length rows) no_part) (settled_rows rows)
 
-indexes_created : with_index kinds all_rows tt (tables_with []) di (target docs 1) default_prefs empty ≡ indexes_with 0 []
+abbrev settling : List ℤ → Index
+settling rows = as_index (settling_context rows)
+
+indexes_created : with_index kinds (inl all_rows) tt (tables_with []) di (target docs 1) default_prefs empty ≡ indexes_with 0 []
 indexes_created =
-    insert_is (slice_cmp nat_cmp) nat_list_cmp_total empty di (new_index kinds all_rows tt (tables_with []) (target docs 1) default_prefs) [] (nothing (slice_cmp nat_cmp) nat_list_cmp_total) tt
+    insert_is (slice_cmp nat_cmp) nat_list_cmp_total empty di (new_index kinds (inl all_rows) tt (tables_with []) (target docs 1) default_prefs) [] (nothing (slice_cmp nat_cmp) nat_list_cmp_total) tt
     ∙ ap (λ (rows : List ℤ). indexes_of (settling rows)) no_row_yet
     ∙ ap (λ (marks : Rows Its). indexes_of (index_of 0 marks)) (no_rows Its)
 
@@ -232,10 +245,10 @@ no_postings =
     ∙ ap (λ (es : List (List ℕ × Growing)). each (its_rows kind.Postings) es ++ row_map_changes kind.Spans di empty) (nothing (slice_cmp nat_cmp) nat_list_cmp_total)
     ∙ ap (λ (es : List (List ℕ × Growing)). each (its_rows kind.Spans) es) (nothing (slice_cmp nat_cmp) nat_list_cmp_total)
 
-second_are : kinds.create_changes all_rows tt (table_at (tables_with []) docs) di (target docs 1) default_prefs ≡ second_changes
+second_are : kinds.create_changes (inl all_rows) tt (table_at (tables_with []) docs) di (target docs 1) default_prefs ≡ second_changes
 second_are =
-    ap (λ (rows : List ℤ). put_value (key kind.Indexes di []) (context_entry (settling rows)) ∷ (mark_each_changes di 1 rows ++ postings_changes di (postings_by default_prefs texts_then) 1 rows)) no_row_yet
-    ∙ ap (λ (ws : List KeyChange). put_value (key kind.Indexes di []) (context_entry (settling [])) ∷ ws) no_postings
+    ap (λ (rows : List ℤ). put_value (key kind.Indexes di []) (context_entry (settling_context rows)) ∷ (mark_each_changes di 1 rows ++ postings_changes di (postings_by default_prefs texts_then) 1 rows)) no_row_yet
+    ∙ ap (λ (ws : List KeyChange). put_value (key kind.Indexes di []) (context_entry (settling_context [])) ∷ ws) no_postings
 
 abbrev second : Content
 second = after (spell second_changes) first
@@ -246,8 +259,8 @@ the_defaults_are = record { lexer = refl; can_be = defaults_can_be_set; stop = r
 second_stands : StandsForState second (state_with [] 0 [])
 second_stands =
     subst (λ (ws : List KeyChange). StandsForState (after (spell ws) first) (state_with [] 0 [])) second_are
-    (subst (λ (xs : Names Index). StandsForState (after (spell (kinds.create_changes all_rows tt (table_at (tables_with []) docs) di (target docs 1) default_prefs)) first) (record { tables = tables_with []; indexes = xs; preferences = no_preferences; thesauri = no_thesauri })) indexes_created
-    (new_index_stands first without_index di docs (table_with []) 1 default_prefs first_stands di_name the_defaults_are index_free))
+    (subst (λ (xs : Names Index). StandsForState (after (spell (kinds.create_changes (inl all_rows) tt (table_at (tables_with []) docs) di (target docs 1) default_prefs)) first) (record { tables = tables_with []; indexes = xs; preferences = no_preferences; thesauri = no_thesauri })) indexes_created
+    (new_index_stands first without_index di docs built.Context (table_with []) 1 (as_wanted default_prefs []) first_stands di_name the_defaults_are refl refl index_free))
 
 -- ---- INSERT INTO docs
 
@@ -263,6 +276,15 @@ heads_are given marks =
     ∙ ap (map {B = List ℕ × IndexHead} (λ (e : List ℕ × Index). (e.0, store_head e.1))) (entries-from_sorted (slice_cmp nat_cmp) ((di, index_with given marks) ∷ []) tt) in
     ap (λ (es : List (List ℕ × IndexHead)). filter (λ (e : List ℕ × IndexHead). is_on_table docs e.1) es)
     (ap (λ (es : List (List ℕ × IndexHead)). entries (from_entries {R = key_order} es)) listed ∙ entries-from_rising key_order key_order_total (head ∷ []) refl)
+
+-- and its column is what a change of a row needs
+abbrev its_notes : List (List ℕ × Noted)
+its_notes = (di, InContext 1) ∷ []
+
+notes_are : (given : ℕ) (marks : List (ℤ × Its)) → noted_on (indexes_with given marks) docs ≡ its_notes
+notes_are given marks =
+    ap (λ (es : List (List ℕ × IndexHead)). noted_named (indexes_with given marks) (map (λ e. e.0) es)) (heads_are given marks)
+    ∙ ap (λ (o : Option Index). noted_at di o ++ []) (index_there given marks)
 
 module _ (rows : List (ℤ × List Value)) (given : ℕ) (marks : List (ℤ × Its)) (r : ℤ) (vs : List Value) (rows_rise : T (is_sorted int_cmp rows)) (marks_rise : T (is_sorted int_cmp marks))
     (then_rows : T (is_sorted int_cmp (put_pair int_cmp r vs rows))) (then_marks : T (is_sorted int_cmp (put_pair int_cmp r Pending marks))) (free : find int_cmp r rows ≡ None) where
@@ -292,13 +314,13 @@ module _ (rows : List (ℤ × List Value)) (given : ℕ) (marks : List (ℤ × I
       ∙ ap (λ (ms : Rows Its). indexes_of (index_of given ms)) (insert_is int_cmp int_cmp_total (from_sorted marks) r Pending marks (entries-from_sorted int_cmp marks marks_rise) then_marks)
 
   row_stands : (c : Content) → StandsForState c (state_with rows given marks) → IsRow r → FitColumns (others docs_columns) vs → length rows < 100000
-      → StandsForState (after (spell (new_row_changes (at c) docs r vs its_heads)) c) (state_with (put_pair int_cmp r vs rows) given (put_pair int_cmp r Pending marks))
+      → StandsForState (after (spell (new_row_changes (at c) docs r vs its_notes)) c) (state_with (put_pair int_cmp r vs rows) given (put_pair int_cmp r Pending marks))
   row_stands c stands row fit few =
       let m = state_with rows given marks in
       let count : length (entries (table_with rows).rows) ≡ length rows = ap length (entries-from_sorted int_cmp rows rows_rise) in
-      subst (λ (heads : List (List ℕ × IndexHead)). StandsForState (after (spell (new_row_changes (at c) docs r vs heads)) c) (state_with (put_pair int_cmp r vs rows) given (put_pair int_cmp r Pending marks))) (heads_are given marks)
-      (subst (λ (ts : Tables). StandsForState (after (spell (new_row_changes (at c) docs r vs (heads_on m.indexes docs))) c) (record { tables = ts; indexes = indexes_with given (put_pair int_cmp r Pending marks); preferences = no_preferences; thesauri = no_thesauri })) tables_with_row
-      (subst (λ (xs : Names Index). StandsForState (after (spell (new_row_changes (at c) docs r vs (heads_on m.indexes docs))) c) (record { tables = with_row (tables_with rows) docs r vs; indexes = xs; preferences = no_preferences; thesauri = no_thesauri })) indexes_with_note
+      subst (λ (notes : List (List ℕ × Noted)). StandsForState (after (spell (new_row_changes (at c) docs r vs notes)) c) (state_with (put_pair int_cmp r vs rows) given (put_pair int_cmp r Pending marks))) (notes_are given marks)
+      (subst (λ (ts : Tables). StandsForState (after (spell (new_row_changes (at c) docs r vs (noted_on m.indexes docs))) c) (record { tables = ts; indexes = indexes_with given (put_pair int_cmp r Pending marks); preferences = no_preferences; thesauri = no_thesauri })) tables_with_row
+      (subst (λ (xs : Names Index). StandsForState (after (spell (new_row_changes (at c) docs r vs (noted_on m.indexes docs))) c) (record { tables = with_row (tables_with rows) docs r vs; indexes = xs; preferences = no_preferences; thesauri = no_thesauri })) indexes_with_note
       (new_row_stands c m docs (table_with rows) r vs stands (table_there rows) (get-from_sorted int_cmp rows r rows_rise ∙ free) row fit (omega (arith, count, few)))))
 
 abbrev row_one : List Value
@@ -316,7 +338,7 @@ unfolding encode
 two_fits = ((omega arith, (codes "slow", (refl, refl))), (omega arith, tt))
 
 abbrev third : Content
-third = after (spell (new_row_changes (at second) docs (pos 1) row_one its_heads)) second
+third = after (spell (new_row_changes (at second) docs (pos 1) row_one its_notes)) second
 
 third_stands : StandsForState third (state_with ((pos 1, row_one) ∷ []) 0 ((pos 1, Pending) ∷ []))
 third_stands = row_stands [] 0 [] (pos 1) row_one tt tt tt tt refl second second_stands (omega arith) one_fits (omega arith)
@@ -325,6 +347,9 @@ third_stands = row_stands [] 0 [] (pos 1) row_one tt tt tt tt refl second second
 
 abbrev one_row : List (ℤ × List Value)
 one_row = (pos 1, row_one) ∷ []
+
+abbrev waiting_context : IndexOf ContextIndex
+waiting_context = as_context (part_with 0) (from_sorted ((pos 1, Pending) ∷ []))
 
 abbrev waiting : Index
 waiting = index_with 0 ((pos 1, Pending) ∷ [])
@@ -396,8 +421,8 @@ fourth_changes = (settled_first ++ put_words) ++ put_value (key kind.Indexes di 
 
 fourth_are : kinds.sync_changes tt (table_at (tables_with one_row) docs) di waiting ≡ fourth_changes
 fourth_are =
-    ap (context_sync_changes di waiting its_texts) one_waits
-    ∙ ap (λ (ws : List KeyChange). (settled_first ++ ws) ++ put_value (key kind.Indexes di []) (context_entry (record waiting { body = context_synced waiting.body })) ∷ []) postings_are
+    ap (context_sync_changes di waiting_context its_texts) one_waits
+    ∙ ap (λ (ws : List KeyChange). (settled_first ++ ws) ++ put_value (key kind.Indexes di []) (context_entry (record waiting_context { body = context_synced waiting_context.body })) ∷ []) postings_are
     ∙ ap (λ (rs : List ℤ). (settled_first ++ put_words) ++ put_value (key kind.Indexes di []) (index_bytes docs 1 default_prefs ((part_with_marks (length rs) (part_with 0)).given + 1)) ∷ []) one_waits
 
 few_enough : has_too_many waiting ≡ false
@@ -422,12 +447,12 @@ fourth_stands : StandsForState fourth (state_with one_row 1 ((pos 1, Settled tt)
 fourth_stands =
     subst (λ (ws : List KeyChange). StandsForState (after (spell ws) third) (state_with one_row 1 ((pos 1, Settled tt) ∷ []))) fourth_are
     (subst (λ (xs : Names Index). StandsForState (after (spell (kinds.sync_changes tt (table_at (tables_with one_row) docs) di waiting)) third) (record { tables = tables_with one_row; indexes = xs; preferences = no_preferences; thesauri = no_thesauri })) indexes_synced
-    (synced_stands third (state_with one_row 0 ((pos 1, Pending) ∷ [])) di waiting third_stands (index_there 0 ((pos 1, Pending) ∷ [])) few_enough))
+    (synced_stands third (state_with one_row 0 ((pos 1, Pending) ∷ [])) di waiting refl third_stands (index_there 0 ((pos 1, Pending) ∷ [])) few_enough))
 
 -- ---- INSERT INTO docs once more
 
 abbrev fifth : Content
-fifth = after (spell (new_row_changes (at fourth) docs (pos 2) row_two its_heads)) fourth
+fifth = after (spell (new_row_changes (at fourth) docs (pos 2) row_two its_notes)) fourth
 
 fifth_stands : StandsForState fifth shown_state
 fifth_stands = row_stands one_row 1 ((pos 1, Settled tt) ∷ []) (pos 2) row_two tt tt tt tt refl fourth fourth_stands (omega arith) two_fits (omega arith)
@@ -437,7 +462,7 @@ fifth_stands = row_stands one_row 1 ((pos 1, Settled tt) ∷ []) (pos 2) row_two
 its_entries : entries fifth ≡ shown_entries
 unfolding row_bytes varint
 its_entries =
-    step (new_row_changes (at fourth) docs (pos 2) row_two its_heads) fourth _ (step fourth_changes third _ (step (new_row_changes (at second) docs (pos 1) row_one its_heads) second _ (step second_changes first _ (step first_changes empty [] (nothing (slice_cmp nat_cmp) nat_list_cmp_total)))))
+    step (new_row_changes (at fourth) docs (pos 2) row_two its_notes) fourth _ (step fourth_changes third _ (step (new_row_changes (at second) docs (pos 1) row_one its_notes) second _ (step second_changes first _ (step first_changes empty [] (nothing (slice_cmp nat_cmp) nat_list_cmp_total)))))
   where
     step : (ws : List KeyChange) (m : Content) (es : List (List ℕ × List ℕ)) → entries m ≡ es → entries (after (spell ws) m) ≡ applied (spell ws) es
     step ws m es is = entries-after (spell ws) m ∙ ap (applied (spell ws)) is
@@ -453,10 +478,9 @@ table_is_created =
 
 index_is_created : effect without_index index_statement ≡ Does (state_with [] 0 []) index_created
 index_is_created =
-    let done : Prefs → Effect = λ prefs. Does (with_new_index without_index di docs 1 prefs) index_created in
-    ap (λ (o : Option Table). with_found o (UnknownName docs) (λ (x : Table). with_found (column_place (codes "body") x.columns) (UnknownName (codes "body")) (λ (place : ℕ). create_index_by without_index di docs (requests_in None) x place))) (table_there [])
-    ∙ ap (λ (b : Bool). check_index b true (Some default_prefs) (nat_le index_limit (length (indexes_on without_index.indexes docs)) || has_too_many_rows without_index docs) di done) index_free.free
-    ∙ ap (λ (b : Bool). check_index false true (Some default_prefs) b di done) index_free.few
+    ap (λ (o : Option Table). with_found o (UnknownName docs) (λ (x : Table). with_found (column_place (codes "body") x.columns) (UnknownName (codes "body")) (λ (place : ℕ). create_index_by without_index di docs built.Context (requests_in built.Context None) x place))) (table_there [])
+    ∙ ap (λ (b : Bool). check_index b true (Some (as_wanted default_prefs [])) (passes_limit without_index docs built.Context) di (λ w. Does (with_new_index without_index di docs built.Context 1 w) index_created)) index_free.free
+    ∙ ap (λ (b : Bool). refuse b LimitReached (Does (with_new_index without_index di docs built.Context 1 (as_wanted default_prefs [])) index_created)) index_free.few
     ∙ ap (λ (xs : Names Index). Does (record { tables = tables_with []; indexes = xs; preferences = no_preferences; thesauri = no_thesauri }) index_created) indexes_created
 
 module _ (rows : List (ℤ × List Value)) (given : ℕ) (marks : List (ℤ × Its)) (r : ℤ) (values : List Operand) (rows_rise : T (is_sorted int_cmp rows)) (marks_rise : T (is_sorted int_cmp marks))
@@ -482,7 +506,7 @@ module _ (rows : List (ℤ × List Value)) (given : ℕ) (marks : List (ℤ × I
 index_is_synced : effect (state_with one_row 0 ((pos 1, Pending) ∷ [])) sync_statement ≡ Does (state_with one_row 1 ((pos 1, Settled tt) ∷ [])) call_done
 index_is_synced =
     let m = state_with one_row 0 ((pos 1, Pending) ∷ []) in
-    ap (λ (o : Option Index). check_sync (unknown_name (is_some o) (Some di)) (TextArg di ∷ []) (sync_named m (Some di))) (index_there 0 ((pos 1, Pending) ∷ []))
+    ap (λ (o : Option Index). sync_as_kind (option_map (λ (x : Index). kinds.kind x.body) o) m (Some di) (TextArg di ∷ [])) (index_there 0 ((pos 1, Pending) ∷ []))
     ∙ ap (λ (o : Option Index). with_found o (UnknownName di) (λ (x : Index). sync_found m di x)) (index_there 0 ((pos 1, Pending) ∷ []))
     ∙ ap (λ (b : Bool). refuse b LimitReached (Does (with_synced m di) call_done)) few_enough
     ∙ ap (λ (xs : Names Index). Does (record { tables = tables_with one_row; indexes = xs; preferences = no_preferences; thesauri = no_thesauri }) call_done) indexes_synced

@@ -1,5 +1,6 @@
 -- The store that docs/STORE.md shows, the statements that lead to it, and the state that it stands for.
 use Rattle.std.specs.Prelude.{ℕ, pos, negsuc, ◌≡◌, true, false, List, [], ◌∷◌, None, codes, refl}
+use Rattle.std.proofs.Common.{inl}
 use Rattle.std.specs.FinMap.{from_sorted}
 use Rattle.ct_base.specs.declared.lists.Value.TheVariants.{Number, Text}
 use Rattle.ct_keep.specs.Content.{Content}
@@ -100,7 +101,7 @@ shown_index = record {
   table = codes "docs";
   column = 1;
   prefs = default_prefs;
-  body = record { part = record { given = 1; tidiness = Untidy; waste = 0 }; marks = from_sorted ((pos 1, Settled tt) ∷ (pos 2, Pending) ∷ []) };
+  body = inl (record { part = record { given = 1; tidiness = Untidy; waste = 0 }; marks = from_sorted ((pos 1, Settled tt) ∷ (pos 2, Pending) ∷ []) });
 }
 
 abbrev pub shown_state : StoreState

@@ -1,18 +1,18 @@
 -- What one statement does: the state after it, and its reply.
-use Rattle.std.specs.Prelude.{ℕ, pos, Bool, true, false, not, ◌&&◌, List, [], ◌∷◌, length, Option, Some, codes, ◌≡◌, refl, nat_le, is_none, ◌++◌}
+use Rattle.std.specs.Prelude.{ℕ, pos, Bool, true, false, List, [], ◌∷◌, length, Option, Some, None, codes, ◌≡◌, refl, nat_le, is_some, ◌++◌}
 use Rattle.std.specs.Bool.{if◌then◌else◌}
 use Rattle.std.specs.Str.{chars, is_utf8}
 use Rattle.st_parse.specs.declared.statements.Arg.{Arg}
 use Rattle.db_cond.specs.Faults.{NotUnderstood, StatementTooLong}
 use Rattle.db_state.specs.States.{StoreState, empty_state}
-use Rattle.db_state.specs.Effects.{Effect, Refused, Does, refuse, reply_by}
+use Rattle.db_state.specs.Effects.{Effect, Refused, Does, reply_by, with_found}
 use Rattle.std.specs.Fmt.{digits}
 use lib.Utf8.{encode}
 use Rattle.ucd_category.proofs.Computing.{ucd_category}
 use Rattle.caseless.proofs.Computing.{caseless}
 use Rattle.tx_chars.specs.Keys.{key_text}
 use Rattle.st_parse.specs.declared.statements.IndexKind.{IndexKind}
-use Rattle.st_parse.specs.declared.statements.IndexKind.TheVariants.{Context, Ctxcat, Ctxrule}
+use Rattle.st_parse.specs.declared.statements.IndexKind.TheVariants.{Context}
 use Rattle.st_parse.specs.declared.statements.Whole.{Whole}
 use Rattle.st_parse.specs.declared.statements.Whole.TheVariants.{Fits}
 use Rattle.st_parse.specs.declared.procedures.Procedure.{Procedure}
@@ -22,6 +22,8 @@ use Rattle.st_parse.specs.declared.statements.Statement.TheVariants.{CreateTable
 use Rattle.st_parse.specs.Grammar.{Read, NoStatement, Found, read}
 use Rattle.st_parse.specs.Grammar.{Blank}
 use Rattle.db_change.specs.Creating.{create_table}
+use Rattle.db_index.specs.declared.kinds.BuiltKind.{BuiltKind}
+use Rattle.db_index.specs.Kinds.{built_kind}
 use Rattle.db_index.specs.Indexing.{create_index}
 use Rattle.db_change.specs.Inserting.{insert_into}
 use Rattle.db_change.specs.Updating.{update}
@@ -42,18 +44,17 @@ call m SyncIndex args = sync_index m args
 call m (Define definition) args = define m definition args
 call m (Thesaurus procedure) args = call_thesaurus m procedure args
 
--- of the indexes those of kind CONTEXT without PARALLEL are built so far
-abbrev pub is_context : IndexKind → Bool
-is_context Context = true
-is_context Ctxcat = false
-is_context Ctxrule = false
+-- the kind of an index without PARALLEL, where it is built
+abbrev pub built_index : IndexKind → Option Whole → Option BuiltKind
+built_index kind None = built_kind kind
+built_index kind (Some degree) = None
 
 abbrev pub is_built_index : IndexKind → Option Whole → Bool
-is_built_index kind parallel = is_context kind && is_none parallel
+is_built_index kind parallel = is_some (built_index kind parallel)
 
 -- CREATE INDEX, where it is built
-abbrev pub create_index_if : Bool → StoreState → List ℕ → List ℕ → List ℕ → Option (List ℕ) → Effect
-create_index_if built m i t column parameters = refuse (not built) NotUnderstood (create_index m i t column parameters)
+abbrev pub create_index_if : Option BuiltKind → StoreState → List ℕ → List ℕ → List ℕ → Option (List ℕ) → Effect
+create_index_if built m i t column parameters = with_found built NotUnderstood (λ kind. create_index m i t column kind parameters)
 
 -- COMMIT changes nothing, since each statement is kept by itself
 abbrev pub commit_complete : List ℕ
@@ -62,7 +63,7 @@ commit_complete = codes "Commit complete.\n"
 -- what a statement does
 abbrev pub effect : StoreState → Statement → Effect
 effect m (CreateTable name columns) = create_table m name columns
-effect m (CreateIndex name table column kind parameters parallel) = create_index_if (is_built_index kind parallel) m name table column parameters
+effect m (CreateIndex name table column kind parameters parallel) = create_index_if (built_index kind parallel) m name table column parameters
 effect m (Insert table columns values) = insert_into m table columns values
 effect m (Select list table preds orders) = select_statement m list table preds
 effect m (Exec procedure args) = call m procedure args
@@ -116,7 +117,7 @@ abbrev pub rest_step : ℕ → StoreState → List ℕ → Effect
 rest_step limit m bytes = if nat_le (length bytes) limit then rest_of m (read_bytes bytes) else Refused StatementTooLong
 
 -- computed examples
-an_index_in_parallel : is_built_index Context (Some (Fits (pos 2))) ≡ false
+an_index_in_parallel : built_index Context (Some (Fits (pos 2))) ≡ None
 an_index_in_parallel = refl
 
 abbrev reply : List ℕ → List ℕ

@@ -1,13 +1,13 @@
 //! Executes statements, each by at most one commit.
 #![tactic(auto, using(ct_keep::specs::laws::Composing::reads_on, ct_keep::specs::laws::Composing::reads_short))]
 
-ghost use Rattle.std.specs.Prelude.{ℕ, ◌≡◌, ◌&&◌, List, IfOk, Some, None, Err, true, false, not, codes, bytes_eq};
+ghost use Rattle.std.specs.Prelude.{ℕ, ◌≡◌, ◌&&◌, List, IfOk, Some, None, Err, true, false, is_some, not, codes, bytes_eq};
 ghost use Rattle.ct_keep.specs.KeeperViews.{AtMostOneCommit, SameButContent, OnlyReads, ReadsKeeper, Told, fault_of};
 ghost use Rattle.db_state.specs.Shapes.{AcceptsStatements};
 ghost use Rattle.db_cond.specs.Faults.{NotUnderstood, refusal_line};
 ghost use Rattle.db_state.specs.Effects.{reply_by};
 ghost use Rattle.db_state.specs.States.{StoreState};
-ghost use Rattle.db_engine.specs.Steps.{call as call_effect, create_index_if, effect, is_built_index as built_index, may_fill, may_fill_by};
+ghost use Rattle.db_engine.specs.Steps.{call as call_effect, create_index_if, effect, built_index as index_built, may_fill, may_fill_by};
 ghost use Rattle.db_engine.specs.Looking.{LooksAsAllowed};
 ghost use Rattle.db_engine.specs.Executing.{ExecutesStatement, FullByCount, IfText, NoTextIsFull, Tells, call_line, done_line, fault_of_stop, index_line, is_fixed, is_fixed_call};
 ghost use Rattle.db_state.specs.Plans.{DoneLines, GivesReply, Replies};
@@ -17,7 +17,7 @@ use ct_base::{Bytes, Listed, Memory, Name, Text};
 use ct_keep::{KeepFault, Keeper};
 use db_change::{create_table, delete_from, drop_table, insert_into, update};
 use db_cond::not_understood;
-use db_index::{create_index, drop_index, policy_tokens, sync_index};
+use db_index::{BuiltKind, built_kind, create_index, drop_index, policy_tokens, sync_index};
 use db_prefs::define;
 use db_select::{looking_law, select};
 use db_state::fixed_reply;
@@ -57,11 +57,14 @@ fn call<R: Threads + Sync, K: Keeper>(
     }
 }
 
-/// Whether an index is of kind CONTEXT, without PARALLEL: so far no other is built.
-fn is_built_index(kind: IndexKind, parallel: &Option<Whole>) -> bool
-    ensures { result ≡ built_index kind parallel.now }
+/// The kind of an index without PARALLEL, where it is built.
+fn built_index(kind: IndexKind, parallel: &Option<Whole>) -> Option<BuiltKind>
+    ensures { result ≡ index_built kind parallel.now }
 {
-    matches!(kind, IndexKind::Context) && parallel.is_none()
+    match parallel {
+        None => built_kind(kind),
+        Some(_) => None,
+    }
 }
 
 /// CREATE INDEX, where it is built.
@@ -73,17 +76,17 @@ fn index_statement<R: Threads + Sync, K: Keeper>(
     index: &Name,
     table: &Name,
     column: &Name,
-    parameters: &Option<Text>,
-    built: bool,
+    text: &Option<Text>,
+    kind: Option<BuiltKind>,
 ) -> Result<Vec<u8>, KeepFault>
     requires { AcceptsStatements (K.view keeper.old) }
-    ensures serves { Replies K.view keeper.old keeper.new result (λ m. create_index_if built m index.now table.now column.now parameters.now) (index_line built) }
-    ensures fixed { built ≡ false → IfOk result (λ reply. reply.items ≡ refusal_line NotUnderstood) }
+    ensures serves { Replies K.view keeper.old keeper.new result (λ m. create_index_if kind m index.now table.now column.now text.now) (index_line (is_some kind)) }
+    ensures fixed { is_some kind ≡ false → IfOk result (λ reply. reply.items ≡ refusal_line NotUnderstood) }
 {
-    if !built {
+    let Some(kind) = kind else {
         return Ok(not_built(alloc)?);
-    }
-    create_index(rt, alloc, degree, keeper, index, table, column, parameters)
+    };
+    create_index(rt, alloc, degree, keeper, index, table, column, kind, text)
 }
 
 /// The reply to a statement: its lines, with their newlines.
@@ -113,7 +116,7 @@ fn reply_to<R: Threads + Sync, K: Keeper>(
             parameters,
             parallel,
         } => {
-            let built = is_built_index(*kind, parallel);
+            let built = built_index(*kind, parallel);
             index_statement(
                 rt, alloc, degree, keeper, name, table, column, parameters, built,
             )

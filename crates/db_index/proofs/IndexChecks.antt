@@ -6,48 +6,49 @@ use Rattle.std.specs.Option.{option_map}
 use Rattle.std.specs.Ordering.{nat_cmp, eq_by_cmp}
 use Rattle.std.specs.Cmp.Lexicographic.{slice_cmp}
 use Rattle.std.specs.FinMap.{get, entries, from_entries, find, get-from_entries, empty, len-entries, len-empty}
-use Rattle.std.proofs.lemmas.Bool.{le-leb, leb-true, and_parts}
-use Rattle.ct_keep.specs.Content.{Content}
-use Rattle.tb_table.specs.declared.columns.Target.{Target}
+use Rattle.std.proofs.lemmas.Bool.{le-leb, and_parts, or_parts}
 use Rattle.std.proofs.lemmas.Cmp.{nat_list_cmp_total}
+use Rattle.std.proofs.lemmas.List.{length-map}
+use Rattle.ct_keep.specs.Content.{Content}
+use Rattle.ct_keep.specs.laws.FoundKeys.{none_below}
+use Rattle.ct_keep.specs.laws.RisingKeys.{below, rises, entries_rise}
 use Rattle.ct_entry.specs.Keys.{same_list}
 use Rattle.ct_entry.specs.Maps.{Names}
 use Rattle.ct_entry.specs.laws.Maps.{names_tie}
 use Rattle.ct_entry.specs.Listings.{key_order}
 use Rattle.ct_entry.specs.laws.Owners.{key_order_total, key_order_tie}
-use Rattle.ct_keep.specs.laws.FoundKeys.{none_below}
-use Rattle.ct_keep.specs.laws.RisingKeys.{below, rises, entries_rise}
 use Rattle.tb_table.specs.declared.columns.Column.{Column}
-use Rattle.std.proofs.lemmas.List.{length-map}
 use Rattle.tb_table.specs.Tables.{Table}
 use Rattle.tb_table.specs.Rules.{AreTables}
-use Rattle.tx_settings.specs.declared.preferences.Prefs.{Prefs}
 use Rattle.tx_prefs.specs.declared.requests.Request.{Request}
 use Rattle.ix_kinds.specs.Rows.{table_at}
-use Rattle.ix_context.specs.Indexes.{rows_within, mark_limit}
-use Rattle.ix_indexes.specs.Indexes.{Index, kinds}
+use Rattle.ix_kinds.specs.Targets.{is_text_at}
 use Rattle.ix_kinds.specs.laws.Tables.{table_is}
+use Rattle.ix_context.specs.Indexes.{rows_within, mark_limit}
 use Rattle.ix_context.specs.laws.ContextCreates.{all_within}
+use Rattle.ix_indexes.specs.Indexes.{Index, kinds}
 use Rattle.db_names.specs.declared.heads.IndexHead.{IndexHead}
+use Rattle.db_names.specs.declared.heads.IndexKind.{IndexKind}
 use Rattle.db_names.specs.Promises.{is_on_table, heads_of}
 use Rattle.db_cond.specs.declared.faults.Fault.{Fault}
-use Rattle.db_cond.specs.Faults.{UnknownName, BadValue}
+use Rattle.db_cond.specs.Faults.{UnknownName, ExistsAlready, WrongValues, BadValue, LimitReached}
 use Rattle.db_cond.specs.Refused.{refusal_of}
 use Rattle.db_state.specs.States.{StoreState, indexes_on, index_limit}
-use Rattle.db_state.specs.Effects.{Effect, Refused, Does, Checks, refuse_by, with_found}
+use Rattle.db_state.specs.Effects.{Effect, Refused, Does, Checks, refuse, refuse_by, with_found}
 use Rattle.db_state.specs.declared.plans.Plan.{Plan}
 use Rattle.db_state.specs.Plans.{IsPlan}
 use Rattle.db_state.specs.Columns.{column_place, place_from}
-use Rattle.db_index.specs.Indexing.{has_index_on, has_too_many_rows, all_rows, target, check_index, check_flags, index_created, with_new_index, create_index_on, create_index_by, create_index, IsFreeIndex, requests_in, unknown_asked, prefs_asked}
-use Rattle.ix_kinds.specs.Targets.{is_text_at}
-use Rattle.db_names.specs.declared.heads.IndexKind.{IndexKind}
-use Rattle.db_names.specs.declared.heads.IndexKind.TheVariants.{Context}
 use Rattle.db_state.specs.Lookups.{is_on_column, index_among, FoundOn}
 use Rattle.db_state.specs.laws.Chains.{checked, passed, refused}
-use Rattle.db_index.specs.laws.Counting.{counted, count-cons, count_insert}
 use Rattle.db_state.specs.laws.EachValue.{entries-each_value, count_alike}
 use Rattle.db_state.specs.laws.Heads.{store_head, store_heads}
-use Rattle.db_index.specs.laws.NewMarks.{every_row}
+use Rattle.db_index.specs.declared.kinds.BuiltKind.{BuiltKind}
+use Rattle.db_index.specs.declared.kinds.BuiltKind.TheVariants.{Context, Catalogue}
+use Rattle.db_index.specs.declared.asking.Wanted.{Wanted}
+use Rattle.db_index.specs.Asking.{AsksForIndex, SectionsFit, are_sub_columns, fitting, requests_in, first_unknown_name, wanted_in}
+use Rattle.db_index.specs.Indexing.{IsFreeIndex, all_rows, asked_for, check_flags, check_index, columns_or_none, create_index, create_index_by, create_index_on, has_index_on, has_too_many_rows, index_created, is_index_taken, passes_limit, target, with_new_index}
+use Rattle.db_index.specs.laws.Counting.{counted, count-cons, count_insert}
+use Rattle.db_index.specs.laws.AllRows.{every_row}
 
 -- ---- the index on a column
 
@@ -105,67 +106,77 @@ or_false true b h = refl
 or_false false b h = h
 
 -- no table has more rows than an index has numbers
-few_rows : (m : StoreState) (t : List ℕ) (x : Table) → AreTables m.tables → get m.tables t ≡ Some x → has_too_many_rows m t ≡ false
-few_rows m t x are there =
+few_rows : (m : StoreState) (t : List ℕ) (kind : BuiltKind) (x : Table) (w : Wanted) → AreTables m.tables → get m.tables t ≡ Some x → has_too_many_rows m t kind w ≡ false
+few_rows m t Context x w are there =
     let is = table_is m.tables t x are there in
     let all = ap length (all_within (table_at m.tables t) is all_rows every_row) ∙ length-map (entries (table_at m.tables t).rows) (λ e. e.0) in
     let few = is.few in
     ap not (le-leb (length (rows_within (table_at m.tables t) all_rows)) mark_limit (omega (arith, all, few)))
+few_rows m t Catalogue x w are there = refl
 
--- what is done by what PARAMETERS means; where that is nothing, the check of its form refuses
-abbrev pub done_by : Option Prefs → (Prefs → Effect) → Effect
+-- what is done by what is wanted; where that is nothing, the check of its form refuses
+abbrev pub done_by : Option Wanted → (Wanted → Effect) → Effect
 done_by None done = Refused BadValue
-done_by (Some prefs) done = done prefs
+done_by (Some w) done = done w
 
-by_flags : (there texts : Bool) (prefs : Option Prefs) (many : Bool) (i : List ℕ) (done : Prefs → Effect)
-    → check_index there texts prefs many i done ≡ check_flags there texts (is_some prefs) many i (done_by prefs done)
-by_flags there texts None many i done = refl
-by_flags there texts (Some prefs) many i done = refl
+by_flags : (there texts : Bool) (found : Option Wanted) (many_by : Wanted → Bool) (many : Bool) (i : List ℕ) (done : Wanted → Effect) → ((w : Wanted) → many_by w ≡ many)
+    → check_index there texts found many_by i done ≡ check_flags there texts (is_some found) many i (done_by found done)
+by_flags there texts None many_by many i done same = refl
+by_flags there texts (Some w) many_by many i done same = ap (λ (b : Bool). refuse there (ExistsAlready i) (refuse (not texts) WrongValues (refuse b LimitReached (done w)))) (same w)
 
--- the effect by what was read
-pub index_as : (m : StoreState) (i t : List ℕ) (x : Table) (place : ℕ) (prefs : Option Prefs) (taken texts formed many : Bool) → AreTables m.tables → get m.tables t ≡ Some x
-    → taken ≡ (is_some (get m.indexes i) || has_index_on Context m.indexes t place) → texts ≡ is_text_at x.columns place → formed ≡ is_some prefs → many ≡ nat_le index_limit (length (indexes_on m.indexes t))
-    → create_index_on m i t x place prefs ≡ check_flags taken texts formed many i (done_by prefs (λ prefs. Does (with_new_index m i t place prefs) index_created))
-index_as m i t x place prefs taken texts formed many are there taken_is texts_is formed_is many_is =
-    let done : Prefs → Effect = λ prefs. Does (with_new_index m i t place prefs) index_created in
-    ap (λ (b : Bool). check_index b (is_text_at x.columns place) prefs (nat_le index_limit (length (indexes_on m.indexes t)) || has_too_many_rows m t) i done) (sym taken_is)
-    ∙ ap (λ (b : Bool). check_index taken b prefs (nat_le index_limit (length (indexes_on m.indexes t)) || has_too_many_rows m t) i done) (sym texts_is)
-    ∙ ap (λ (b : Bool). check_index taken texts prefs b i done) (or_false _ _ (few_rows m t x are there) ∙ sym many_is)
-    ∙ by_flags taken texts prefs many i done
-    ∙ ap (λ (b : Bool). check_flags taken texts b many i (done_by prefs done)) (sym formed_is)
-
--- no check holds of what is done
-index_free : (m : StoreState) (i t : List ℕ) (x : Table) (place : ℕ) (prefs : Prefs) (n : StoreState) (reply : List ℕ) → get m.tables t ≡ Some x
-    → create_index_on m i t x place (Some prefs) ≡ Does n reply → IsFreeIndex m i t x place
-index_free m i t x place prefs n reply there is =
-    let p = passed _ _ _ n reply is in
-    let q = passed _ _ _ n reply p.1 in
-    let r = passed _ _ _ n reply q.1 in
-    record { there = there; free = p.0; texts = not_false (is_text_at x.columns place) q.0; few = r.0 }
+-- what fits is what is wanted
+pub fitting_is : (cs : List Column) (found : Option Wanted) (w : Wanted) → found ≡ Some w → is_some (fitting cs found) ≡ true → (fitting cs found ≡ Some w) × (are_sub_columns cs w.subs ≡ true)
+fitting_is cs None w is h = cc
+fitting_is cs (Some v) w is h = let same : v ≡ w = cc in go (are_sub_columns cs v.subs) refl h same
   where
-    not_false : (b : Bool) → not b ≡ false → b ≡ true
-    not_false true h = refl
-    not_false false h = cc
+    go : (b : Bool) → are_sub_columns cs v.subs ≡ b → is_some (cond b (Some v) None) ≡ true → v ≡ w → (cond b (Some v) None ≡ Some w) × (are_sub_columns cs w.subs ≡ true)
+    go true are h same = (ap Some same, ap (λ (u : Wanted). are_sub_columns cs u.subs) (sym same) ∙ are)
+    go false are h same = cc
 
 -- the effect by the fault that the checks of what was read found, or where they found none
-module _ (m : StoreState) (i t : List ℕ) (x : Table) (place : ℕ) (prefs : Option Prefs) (taken texts formed many : Bool) (found : Option Fault) (are : AreTables m.tables) (there : get m.tables t ≡ Some x)
-    (taken_is : taken ≡ (is_some (get m.indexes i) || has_index_on Context m.indexes t place)) (texts_is : texts ≡ is_text_at x.columns place) (formed_is : formed ≡ is_some prefs) (many_is : many ≡ nat_le index_limit (length (indexes_on m.indexes t)))
-    (checks : (done : Effect) → Checks found (check_flags taken texts formed many i done) done) where
+module _ (m : StoreState) (i t : List ℕ) (kind : BuiltKind) (x : Table) (place : ℕ) (wanted : Option Wanted) (taken texts formed many : Bool) (found : Option Fault) (are : AreTables m.tables) (there : get m.tables t ≡ Some x)
+    (taken_is : taken ≡ is_index_taken kind m i t place) (texts_is : texts ≡ is_text_at x.columns place) (formed_is : formed ≡ is_some (fitting x.columns wanted))
+    (many_is : many ≡ nat_le index_limit (length (indexes_on m.indexes t))) (checks : (done : Effect) → Checks found (check_flags taken texts formed many i done) done) where
+  abbrev made_of : Wanted → Effect
+  made_of w = Does (with_new_index m i t kind place w) index_created
+
   abbrev made : Effect
-  made = done_by prefs (λ prefs. Does (with_new_index m i t place prefs) index_created)
+  made = done_by (fitting x.columns wanted) made_of
 
-  as_checked : create_index_on m i t x place prefs ≡ check_flags taken texts formed many i made
-  as_checked = index_as m i t x place prefs taken texts formed many are there taken_is texts_is formed_is many_is
+  -- the effect by what was read
+  as_checked : create_index_on m i t kind x place wanted ≡ check_flags taken texts formed many i made
+  as_checked =
+      ap (λ (b : Bool). check_index b (is_text_at x.columns place) (fitting x.columns wanted) (passes_limit m t kind) i made_of) (sym taken_is)
+      ∙ ap (λ (b : Bool). check_index taken b (fitting x.columns wanted) (passes_limit m t kind) i made_of) (sym texts_is)
+      ∙ by_flags taken texts (fitting x.columns wanted) (passes_limit m t kind) many i made_of (λ w. or_false _ _ (few_rows m t kind x w are there) ∙ sym many_is)
+      ∙ ap (λ (b : Bool). check_flags taken texts b many i made) (sym formed_is)
 
-  pub faulty : (fault : Fault) → found ≡ Some fault → create_index_on m i t x place prefs ≡ Refused (refusal_of fault)
+  pub faulty : (fault : Fault) → found ≡ Some fault → create_index_on m i t kind x place wanted ≡ Refused (refusal_of fault)
   faulty fault is = as_checked ∙ refused found fault (check_flags taken texts formed many i made) made is (checks made)
 
-  -- where there are preferences, no check holds, and the index is made
-  pub faultless : (p : Prefs) → found ≡ None → prefs ≡ Some p → IsFreeIndex m i t x place × (create_index_on m i t x place prefs ≡ Does (with_new_index m i t place p) index_created)
-  faultless p none is =
-      let effect : create_index_on m i t x place prefs ≡ Does (with_new_index m i t place p) index_created =
-      as_checked ∙ checked found (check_flags taken texts formed many i made) made none (checks made) ∙ ap (λ (o : Option Prefs). done_by o (λ prefs. Does (with_new_index m i t place prefs) index_created)) is in
-      (index_free m i t x place p (with_new_index m i t place p) index_created there (sym (ap (create_index_on m i t x place) is) ∙ effect), effect)
+  -- where something is wanted, no check holds, and the index is made
+  pub faultless : (w : Wanted) → found ≡ None → wanted ≡ Some w → formed ≡ true → SectionsFit kind w
+      → IsFreeIndex m i t kind x place w × (create_index_on m i t kind x place wanted ≡ Does (with_new_index m i t kind place w) index_created)
+  faultless w none is good sections =
+      let fits = fitting_is x.columns wanted w is (sym formed_is ∙ good) in
+      let effect = as_checked ∙ checked found (check_flags taken texts formed many i made) made none (checks made) ∙ ap (λ (o : Option Wanted). done_by o made_of) fits.0 in
+      let p = passed _ _ _ (with_new_index m i t kind place w) index_created
+      (ap (λ (o : Option Wanted). check_index (is_index_taken kind m i t place) (is_text_at x.columns place) o (passes_limit m t kind) i made_of) (sym fits.0) ∙ effect) in
+      let q = passed _ _ _ (with_new_index m i t kind place w) index_created p.1 in
+      let r = passed _ _ _ (with_new_index m i t kind place w) index_created q.1 in
+      (record { there = there; free = p.0; texts = not_true (is_text_at x.columns place) q.0; subs = fits.1; few = r.0; sections = sections }, effect)
+    where
+      not_true : (b : Bool) → not b ≡ false → b ≡ true
+      not_true true h = refl
+      not_true false h = cc
+
+-- an index of which no check holds needs no more documents than there are numbers
+pub no_limit_passed : (m : StoreState) (i t : List ℕ) (kind : BuiltKind) (x : Table) (place : ℕ) (w : Wanted) → IsFreeIndex m i t kind x place w
+    → kinds.can_create (table_at m.tables (target t place).table) (asked_for kind w) ≡ false → ⊥
+no_limit_passed m i t kind x place w free none =
+    let few = or_parts (nat_le index_limit (length (indexes_on m.indexes t))) (has_too_many_rows m t kind w) free.few in
+    let wrong : true ≡ false = ap not (sym none) ∙ few.1 in
+    cc
 
 -- ---- the table and the column
 
@@ -196,60 +207,54 @@ place_within name cs place is = let far = go 0 cs is in omega (arith, far)
         at_head true h rest = let same : from ≡ place = cc in omega (arith, same)
         at_head false h rest = let far = rest h in omega (arith, far)
 
-pub rows_given : (m : StoreState) (on : Target) (t : List ℕ) (place : ℕ) (x : Table) → AreTables m.tables → get m.tables t ≡ Some x
-    → on ≡ target t place → mark_limit < length (rows_within (table_at m.tables on.table) all_rows) → ⊥
-rows_given m on t place x are there is over =
-    let few = leb-true (length (rows_within (table_at m.tables t) all_rows)) mark_limit (room (kinds.can_create (table_at m.tables t) all_rows) (few_rows m t x are there)) in
-    let same = ap (λ (y : Target). length (rows_within (table_at m.tables y.table) all_rows)) is in
-    omega (arith, few, same, over)
-  where
-    room : (b : Bool) → not b ≡ false → b ≡ true
-    room true h = refl
-    room false h = cc
-
 -- ---- the effect by the table and the column
 
-pub unknown_table : (m : StoreState) (i t column : List ℕ) (parameters : Option (List ℕ)) → get m.tables t ≡ None → create_index m i t column parameters ≡ Refused (UnknownName t)
-unknown_table m i t column parameters none = ap (λ (o : Option Table). with_found o (UnknownName t) (λ (x : Table). with_found (column_place column x.columns) (UnknownName column) (λ (place : ℕ). create_index_by m i t (requests_in parameters) x place))) none
+module _ (m : StoreState) (i t column : List ℕ) (kind : BuiltKind) (parameters : Option (List ℕ)) where
+  abbrev by_place : Table → ℕ → Effect
+  by_place x place = create_index_by m i t kind (requests_in kind parameters) x place
 
-pub unknown_column : (m : StoreState) (i t column : List ℕ) (parameters : Option (List ℕ)) (x : Table) → get m.tables t ≡ Some x
-    → column_place column x.columns ≡ None → create_index m i t column parameters ≡ Refused (UnknownName column)
-unknown_column m i t column parameters x there none =
-    ap (λ (o : Option Table). with_found o (UnknownName t) (λ (x : Table). with_found (column_place column x.columns) (UnknownName column) (λ (place : ℕ). create_index_by m i t (requests_in parameters) x place))) there
-    ∙ ap (λ (o : Option ℕ). with_found o (UnknownName column) (λ (place : ℕ). create_index_by m i t (requests_in parameters) x place)) none
+  abbrev by_table : Table → Effect
+  by_table x = with_found (column_place column x.columns) (UnknownName column) (by_place x)
 
-known_column : (m : StoreState) (i t column : List ℕ) (parameters : Option (List ℕ)) (x : Table) (place : ℕ) → get m.tables t ≡ Some x
-    → column_place column x.columns ≡ Some place → create_index m i t column parameters ≡ create_index_by m i t (requests_in parameters) x place
-known_column m i t column parameters x place there some =
-    ap (λ (o : Option Table). with_found o (UnknownName t) (λ (x : Table). with_found (column_place column x.columns) (UnknownName column) (λ (place : ℕ). create_index_by m i t (requests_in parameters) x place))) there
-    ∙ ap (λ (o : Option ℕ). with_found o (UnknownName column) (λ (place : ℕ). create_index_by m i t (requests_in parameters) x place)) some
+  pub unknown_table : get m.tables t ≡ None → create_index m i t column kind parameters ≡ Refused (UnknownName t)
+  unknown_table none = ap (λ (o : Option Table). with_found o (UnknownName t) by_table) none
 
--- The column stands at this place of the table with these columns, and the effect is by both.
-pub record IsOnColumn (m : StoreState) (i t column : List ℕ) (parameters : Option (List ℕ)) (columns : List Column) (place : ℕ) : Type 0 where
-  pub table : Table
-  pub there : get m.tables t ≡ Some table
-  pub same : columns ≡ table.columns
-  pub few : place < length table.columns
-  pub effect : create_index m i t column parameters ≡ create_index_by m i t (requests_in parameters) table place
+  pub unknown_column : (x : Table) → get m.tables t ≡ Some x → column_place column x.columns ≡ None → create_index m i t column kind parameters ≡ Refused (UnknownName column)
+  unknown_column x there none = ap (λ (o : Option Table). with_found o (UnknownName t) by_table) there ∙ ap (λ (o : Option ℕ). with_found o (UnknownName column) (by_place x)) none
 
-pub on_column : (m : StoreState) (i t column : List ℕ) (parameters : Option (List ℕ)) (found : Option (List Column)) (columns : List Column) (place : ℕ) → found ≡ option_map (λ (x : Table). x.columns) (get m.tables t)
-    → found ≡ Some columns → column_place column columns ≡ Some place → IsOnColumn m i t column parameters columns place
-on_column m i t column parameters found columns place read some is =
-    let x = the_table m t found columns read some in
-    let at : column_place column x.0.columns ≡ Some place = ap (column_place column) (sym x.2) ∙ is in
-    record { table = x.0; there = x.1; same = x.2; few = place_within column x.0.columns place at; effect = known_column m i t column parameters x.0 place x.1 at }
+  -- The column stands at this place of the table with these columns, of which this was asked for, and the effect is by all these.
+  pub record IsOnColumn (columns : List Column) (place : ℕ) (unknown : Option (List ℕ)) (found : Option Wanted) : Type 0 where
+    pub table : Table
+    pub there : get m.tables t ≡ Some table
+    pub same : columns ≡ table.columns
+    pub few : place < length table.columns
+    pub asks : AsksForIndex m.preferences table.columns (requests_in kind parameters) (record { unknown = unknown; wanted = found })
+    pub effect : create_index m i t column kind parameters ≡ create_index_by m i t kind (requests_in kind parameters) table place
+
+  pub on_column : (read : Option (List Column)) (columns : List Column) (place : ℕ) (unknown : Option (List ℕ)) (found : Option Wanted) → read ≡ option_map (λ (x : Table). x.columns) (get m.tables t)
+      → AsksForIndex m.preferences (columns_or_none read) (requests_in kind parameters) (record { unknown = unknown; wanted = found })
+      → read ≡ Some columns → column_place column columns ≡ Some place → IsOnColumn columns place unknown found
+  on_column read columns place unknown found is_read asks some is =
+      let x = the_table m t read columns is_read some in
+      let at : column_place column x.0.columns ≡ Some place = ap (column_place column) (sym x.2) ∙ is in
+      record {
+        table = x.0;
+        there = x.1;
+        same = x.2;
+        few = place_within column x.0.columns place at;
+        asks = subst (λ (cs : List Column). AsksForIndex m.preferences cs (requests_in kind parameters) (record { unknown = unknown; wanted = found })) (ap columns_or_none some ∙ x.2) asks;
+        effect = ap (λ (o : Option Table). with_found o (UnknownName t) by_table) x.1 ∙ ap (λ (o : Option ℕ). with_found o (UnknownName column) (by_place x.0)) at;
+      }
 
 -- and by what PARAMETERS asks for
-pub unknown_preference : (m : StoreState) (i t : List ℕ) (requests : Option (List Request)) (x : Table) (place : ℕ) (name : List ℕ)
-    → unknown_asked m.preferences requests ≡ Some name → create_index_by m i t requests x place ≡ Refused (UnknownName name)
-unknown_preference m i t requests x place name is = ap (λ (o : Option (List ℕ)). refuse_by o UnknownName (create_index_on m i t x place (prefs_asked m.preferences requests))) is
+pub unknown_asked : (m : StoreState) (i t : List ℕ) (kind : BuiltKind) (requests : Option (List Request)) (x : Table) (place : ℕ) (name : List ℕ)
+    → first_unknown_name m.preferences x.columns requests ≡ Some name → create_index_by m i t kind requests x place ≡ Refused (UnknownName name)
+unknown_asked m i t kind requests x place name is = ap (λ (o : Option (List ℕ)). refuse_by o UnknownName (create_index_on m i t kind x place (wanted_in m.preferences requests))) is
 
-pub known_preferences : (m : StoreState) (i t : List ℕ) (requests : Option (List Request)) (x : Table) (place : ℕ) (prefs : Option Prefs)
-    → unknown_asked m.preferences requests ≡ None → prefs ≡ prefs_asked m.preferences requests
-    → create_index_by m i t requests x place ≡ create_index_on m i t x place prefs
-known_preferences m i t requests x place prefs none is =
-    ap (λ (o : Option (List ℕ)). refuse_by o UnknownName (create_index_on m i t x place (prefs_asked m.preferences requests))) none
-    ∙ ap (create_index_on m i t x place) (sym is)
+pub known_asked : (m : StoreState) (i t : List ℕ) (kind : BuiltKind) (requests : Option (List Request)) (x : Table) (place : ℕ) (wanted : Option Wanted)
+    → first_unknown_name m.preferences x.columns requests ≡ None → wanted ≡ wanted_in m.preferences requests → create_index_by m i t kind requests x place ≡ create_index_on m i t kind x place wanted
+known_asked m i t kind requests x place wanted none is =
+    ap (λ (o : Option (List ℕ)). refuse_by o UnknownName (create_index_on m i t kind x place (wanted_in m.preferences requests))) none ∙ ap (create_index_on m i t kind x place) (sym is)
 
 -- a plan of one effect is that of an equal one
 pub plan_as : (e f : Effect) (line : List ℕ) (c : Content) (plan : Plan) → e ≡ f → IsPlan f line c plan → IsPlan e line c plan

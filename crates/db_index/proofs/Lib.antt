@@ -1,6 +1,9 @@
 pub mod Found
 pub mod IndexChecks
 pub mod SyncChecks
+pub mod SyncSteps
+pub mod AskSteps
+pub mod CreateSteps
 pub mod PlanShapes
 pub mod DropChecks
 pub mod TokenChecks

@@ -1,5 +1,6 @@
 -- What CTX_DDL.SYNC_INDEX does.
 use Rattle.std.specs.Prelude.{ℕ, pos, ◌==◌, Bool, true, false, not, ◌||◌, ◌&&◌, is_some, List, [], ◌∷◌, Option, Some, None, codes, ◌≡◌, refl, MatchOption}
+use Rattle.std.specs.Option.{option_map}
 use Rattle.std.specs.Char.{to_ascii_lowercase, is_ascii_digit}
 use Rattle.std.specs.FinMap.{get}
 use Rattle.st_parse.specs.declared.statements.Arg.{Arg}
@@ -9,7 +10,9 @@ use Rattle.ct_entry.specs.Changes.{spell}
 use Rattle.ix_kinds.specs.Rows.{table_at}
 use Rattle.ix_kinds.specs.Statements.{indexes_after_sync}
 use Rattle.ix_indexes.specs.Indexes.{Index, kinds}
-use Rattle.db_cond.specs.Faults.{UnknownName, WrongValues, BadValue, LimitReached}
+use Rattle.db_names.specs.declared.heads.IndexKind.{IndexKind}
+use Rattle.db_names.specs.declared.heads.IndexKind.TheVariants.{Context, Catalogue}
+use Rattle.db_cond.specs.Faults.{UnknownName, NoIndexOfKind, WrongValues, BadValue, LimitReached}
 use Rattle.db_state.specs.States.{StoreState}
 use Rattle.db_state.specs.Effects.{Effect, Refused, Does, refuse, refuse_by, with_found}
 use Rattle.st_parse.specs.declared.statements.Whole.TheVariants.{Fits}
@@ -41,13 +44,25 @@ abbrev pub unknown_name : Bool → Option (List ℕ) → Option (List ℕ)
 unknown_name true name = None
 unknown_name false name = name
 
--- the checks in their order, by the name that no index has, if it is one
-abbrev pub check_sync : Option (List ℕ) → List Arg → Effect → Effect
-check_sync unknown args done =
+-- the kind of the index that has the name
+abbrev pub kind_named : StoreState → Option (List ℕ) → Option IndexKind
+kind_named m None = None
+kind_named m (Some i) = option_map (λ (x : Index). kinds.kind x.body) (get m.indexes i)
+
+-- Of all kinds CONTEXT alone is synchronised.
+abbrev pub is_other_kind : Option IndexKind → Bool
+is_other_kind None = false
+is_other_kind (Some Context) = false
+is_other_kind (Some kind) = true
+
+-- the checks in their order, by the name that no index has, if it is one, and whether the index that has it is of another kind
+abbrev pub check_sync : Option (List ℕ) → Bool → List Arg → Effect → Effect
+check_sync unknown other args done =
     refuse_by unknown UnknownName
+    (refuse other NoIndexOfKind
     (refuse (not (are_sync_args args)) WrongValues
     (refuse (is_bad_size args) BadValue
-    done))
+    done)))
 
 -- there are too few numbers for the rows that wait
 abbrev pub has_too_many : Index → Bool
@@ -64,12 +79,12 @@ abbrev pub sync_named : StoreState → Option (List ℕ) → Effect
 sync_named m None = Refused BadValue
 sync_named m (Some i) = with_found (get m.indexes i) (UnknownName i) (λ (x : Index). sync_found m i x)
 
-abbrev pub has_index : StoreState → Option (List ℕ) → Bool
-has_index m None = false
-has_index m (Some i) = is_some (get m.indexes i)
+-- by the kind of the index that the first argument names
+abbrev pub sync_as_kind : Option IndexKind → StoreState → Option (List ℕ) → List Arg → Effect
+sync_as_kind kind m name args = check_sync (unknown_name (is_some kind) name) (is_other_kind kind) args (sync_named m name)
 
 abbrev pub sync_index : StoreState → List Arg → Effect
-sync_index m args = check_sync (unknown_name (has_index m (argument_name 0 args)) (argument_name 0 args)) args (sync_named m (argument_name 0 args))
+sync_index m args = sync_as_kind (kind_named m (argument_name 0 args)) m (argument_name 0 args) args
 
 -- ---- what its functions give
 
@@ -88,22 +103,24 @@ no_unit : is_memory_size (codes "16") ≡ false
 no_unit = refl
 
 -- the name that no index has comes before the number of arguments
-unknown_and_too_many : (done : Effect)
-    → check_sync (unknown_name false (argument_name 0 (TextArg (codes "nope") ∷ NumberArg (Fits (pos 1)) ∷ NumberArg (Fits (pos 2)) ∷ []))) (TextArg (codes "nope") ∷ NumberArg (Fits (pos 1)) ∷ NumberArg (Fits (pos 2)) ∷ []) done
-    ≡ Refused (UnknownName (codes "nope"))
-unknown_and_too_many done = refl
+unknown_and_too_many : (m : StoreState)
+    → sync_as_kind None m (Some (codes "nope")) (TextArg (codes "nope") ∷ NumberArg (Fits (pos 1)) ∷ NumberArg (Fits (pos 2)) ∷ []) ≡ Refused (UnknownName (codes "nope"))
+unknown_and_too_many m = refl
+
+-- so does a catalogue of the name
+catalogue_and_too_many : (m : StoreState)
+    → sync_as_kind (Some Catalogue) m (Some (codes "ci")) (TextArg (codes "ci") ∷ NumberArg (Fits (pos 1)) ∷ NumberArg (Fits (pos 2)) ∷ []) ≡ Refused NoIndexOfKind
+catalogue_and_too_many m = refl
 
 -- a text that isn't spelt as a name is none that could be unknown
-no_name_and_a_number : (done : Effect)
-    → check_sync (unknown_name false (argument_name 0 (TextArg (codes "no name") ∷ NumberArg (Fits (pos 1)) ∷ []))) (TextArg (codes "no name") ∷ NumberArg (Fits (pos 1)) ∷ []) done
-    ≡ Refused WrongValues
-no_name_and_a_number done = refl
+no_name_and_a_number : (m : StoreState) → sync_index m (TextArg (codes "no name") ∷ NumberArg (Fits (pos 1)) ∷ []) ≡ Refused WrongValues
+no_name_and_a_number m = refl
 
 no_name_alone : (m : StoreState) → sync_index m (TextArg (codes "no name") ∷ []) ≡ Refused BadValue
 no_name_alone m = refl
 
-bad_size : (done : Effect) → check_sync (unknown_name true (Some (codes "di"))) (TextArg (codes "di") ∷ TextArg (codes "16") ∷ []) done ≡ Refused BadValue
-bad_size done = refl
+bad_size : (m : StoreState) → sync_as_kind (Some Context) m (Some (codes "di")) (TextArg (codes "di") ∷ TextArg (codes "16") ∷ []) ≡ Refused BadValue
+bad_size m = refl
 
 in_any_case : argument_name 0 (TextArg (codes "DI") ∷ []) ≡ Some (codes "di")
 in_any_case = refl

@@ -1,3 +1,5 @@
 pub mod Counting
+pub mod AllRows
+pub mod Created
 pub mod NewMarks
 pub mod Dropped

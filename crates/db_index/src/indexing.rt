@@ -2,20 +2,24 @@
 #![tactic(auto, using(ct_keep::specs::laws::Composing::reads_on, ct_keep::specs::laws::Composing::reads_short, ct_keep::specs::laws::Composing::accepts_on))]
 
 ghost use Rattle.std.specs.Prelude.{◌≡◌, ◌<◌, ◌∷◌, [], IfOk, IfSome, Some, None, nat_le, length, true};
+ghost use Rattle.std.proofs.Common.{inl, inr};
 ghost use Rattle.ct_keep.specs.KeeperViews.{OnlyReads, Told};
 ghost use Rattle.ct_keep.specs.Looks.{scan_looks, LooksAtMost};
 ghost use Rattle.ct_entry.specs.declared.kinds.Kind.TheVariants as entry;
 ghost use Rattle.ct_entry.specs.Kinds.{code};
-ghost use Rattle.tb_table.specs.Tables.{Table};
 ghost use Rattle.tx_settings.specs.Attributes.{can_be_set};
 ghost use Rattle.db_state.specs.States.{OverStates, OverNamedTable, indexes_on, index_limit, Sees};
 ghost use Rattle.db_state.specs.Effects.{Effect, Checks};
-ghost use Rattle.db_index.specs.Indexing.{MakesFreeIndex, PlansAsked, PlansFreeIndex, PlansIndex, check_flags, create_index as create_index_effect, has_index_on as column_has_index, index_made, is_index_taken};
+ghost use Rattle.db_index.specs.Asking.{CanBeCreated};
+ghost use Rattle.db_index.specs.Indexing.{MakesIndex, MakesOver, PlansAsked, PlansFreeIndex, PlansIndex, all_rows, check_flags, columns_or_none as columns_of_table, columns_read, create_index as create_index_effect, has_index_on as column_has_index, index_made, is_index_taken};
 ghost use Rattle.ix_kinds.specs.Targets.{is_text_at as text_at, is_text_sort as sort_of_texts};
 ghost use Rattle.db_state.specs.Plans.{IsStorePlan, Replies};
 ghost use Rattle.db_state.specs.Shapes.{AcceptsStatements, AreStoreChanges};
 
-use crate::asking::{Asked, read_asked};
+use crate::asking::{Asked, Wanted, read_asked};
+use crate::kinds::{BuiltKind, index_kind};
+use crate::sub_columns::is_fitting;
+use cat_index::Catalogue;
 use ct_base::{Name, Text};
 use ct_keep::{Batch, KeepFault, Keeper};
 use db_cond::Fault;
@@ -23,10 +27,11 @@ use db_names::{IndexHead, IndexKind, indexes_of};
 use db_state::{
     Plan, carry_out, column_place, has_index, index_of_column, table_columns, target_of,
 };
-use ix_context::{ContextFault, KeyRange, create};
+use ix_context::{ContextFault, KeyRange};
 use std::alloc::Global;
 use std::thread::Threads;
-use tb_table::{Column, Sort};
+use tb_table::{Column, Sort, Target};
+use tx_sets::keep_names;
 use tx_settings::Prefs;
 
 /// How many indexes a table has at most.
@@ -73,20 +78,21 @@ fn has_index_on<K: Keeper>(
     Ok(other.is_some())
 }
 
-/// Whether there is an index of the name, or one of the kind CONTEXT on the column.
+/// Whether there is an index of the name, or one of the kind on the column.
 fn is_taken<K: Keeper>(
     alloc: Global,
     keeper: &mut K,
+    kind: BuiltKind,
     index: &Name,
     table: &Name,
     place: usize,
 ) -> Result<bool, KeepFault>
     requires { (K.view keeper.old).ready }
-    ensures taken { OverStates K.view keeper.old (λ m c. place < 256 → IfOk result (λ taken. taken ≡ is_index_taken m index.now table.now place)) }
+    ensures taken { OverStates K.view keeper.old (λ m c. place < 256 → IfOk result (λ taken. taken ≡ is_index_taken kind m index.now table.now place)) }
     ensures reads { OnlyReads K.view keeper.old keeper.new result }
 {
     let there = has_index(alloc, keeper, index)?;
-    let other = has_index_on(alloc, keeper, IndexKind::Context, table, place)?;
+    let other = has_index_on(alloc, keeper, index_kind(kind), table, place)?;
     Ok(there || other)
 }
 
@@ -139,37 +145,31 @@ fn index_fault<'a>(
     None
 }
 
-/// The changes of a new index on a column, by its place; None where the index would need more documents than there are numbers,
-/// or there is no such place.
-fn created<R: Threads + Sync, K: Keeper>(
+/// The changes of a new CONTEXT index; None where it would need more documents than there are numbers.
+fn new_context<R: Threads + Sync, K: Keeper>(
     rt: &R,
     alloc: Global,
     degree: u32,
     keeper: &mut K,
     index: &Name,
-    table: &Name,
-    place: usize,
+    target: &Target,
     prefs: &Prefs,
 ) -> Result<Option<Batch>, KeepFault>
     requires ready { (K.view keeper.old).ready }
     requires set { can_be_set prefs.now.lexer ≡ true }
-    ensures changes { OverStates K.view keeper.old (λ m c. MakesFreeIndex m index.now table.now place prefs.now result) }
+    ensures changes { OverStates K.view keeper.old (λ m c. IfOk result (MakesOver m (inl all_rows) index.now target.now prefs.now)) }
     ensures entries { IfOk result (λ found. IfSome found AreStoreChanges) }
     ensures reads { OnlyReads K.view keeper.old keeper.new result }
 {
-    let Ok(column) = u8::try_from(place) else {
-        return Ok(None);
-    };
-    let target = target_of(table, column)?;
     let mut batch = Batch::new(alloc);
-    match create(
+    match ix_context::create(
         rt,
         alloc,
         degree,
         keeper,
         &mut batch,
         index,
-        &target,
+        target,
         prefs,
         KeyRange::ALL,
     ) {
@@ -180,27 +180,84 @@ fn created<R: Threads + Sync, K: Keeper>(
     }
 }
 
+/// The changes of a new catalogue.
+fn new_catalogue<K: Keeper>(
+    alloc: Global,
+    keeper: &mut K,
+    index: &Name,
+    target: Target,
+    wanted: Wanted,
+) -> Result<Option<Batch>, KeepFault>
+    requires ready { (K.view keeper.old).ready }
+    requires can { CanBeCreated wanted }
+    ensures changes { OverStates K.view keeper.old (λ m c. IfOk result (MakesOver m (inr wanted.subs) index.now target wanted.prefs)) }
+    ensures entries { IfOk result (λ found. IfSome found AreStoreChanges) }
+    ensures reads { OnlyReads K.view keeper.old keeper.new result }
+{
+    let catalogue = Catalogue {
+        target,
+        prefs: wanted.prefs,
+        subs: wanted.subs,
+    };
+    let mut batch = Batch::new(alloc);
+    cat_index::create(alloc, keeper, &mut batch, index, &catalogue)?;
+    Ok(Some(batch))
+}
+
+/// The changes of a new index on a column, by its place; None where the index would need more documents than there are numbers,
+/// or there is no such place.
+fn created<R: Threads + Sync, K: Keeper>(
+    rt: &R,
+    alloc: Global,
+    degree: u32,
+    keeper: &mut K,
+    kind: BuiltKind,
+    index: &Name,
+    table: &Name,
+    place: usize,
+    wanted: Wanted,
+) -> Result<Option<Batch>, KeepFault>
+    requires ready { (K.view keeper.old).ready }
+    requires can { CanBeCreated wanted }
+    ensures changes { OverStates K.view keeper.old (λ m c. place < 256 → IfOk result (MakesIndex m index.now table.now kind place wanted)) }
+    ensures entries { IfOk result (λ found. IfSome found AreStoreChanges) }
+    ensures reads { OnlyReads K.view keeper.old keeper.new result }
+{
+    let Ok(column) = u8::try_from(place) else {
+        return Ok(None);
+    };
+    let target = target_of(table, column)?;
+    match kind {
+        BuiltKind::Context => {
+            new_context(rt, alloc, degree, keeper, index, &target, &wanted.prefs)
+        }
+        BuiltKind::Catalogue => new_catalogue(alloc, keeper, index, target, wanted),
+    }
+}
+
 /// The plan of an index of which no check holds.
 fn free_plan<'a, R: Threads + Sync, K: Keeper>(
     rt: &R,
     alloc: Global,
     degree: u32,
     keeper: &mut K,
+    kind: BuiltKind,
     index: &Name,
     table: &Name,
     place: usize,
-    prefs: &Prefs,
+    wanted: Wanted,
 ) -> Result<Plan<'a>, KeepFault>
     requires ready { (K.view keeper.old).ready }
-    requires set { can_be_set prefs.now.lexer ≡ true }
-    ensures plan { OverStates K.view keeper.old (λ m c. PlansFreeIndex m c index.now table.now place prefs.now result) }
+    requires can { CanBeCreated wanted }
+    ensures plan { OverStates K.view keeper.old (λ m c. PlansFreeIndex m c index.now table.now kind place wanted result) }
     ensures entries { IfOk result IsStorePlan }
     ensures reads { OnlyReads K.view keeper.old keeper.new result }
 {
-    // Read so that the proof knows that it is a name.
+    // Read so that the proof knows that it is a name, and so are those of the columns.
     let _named = index.as_str();
-    prefs.keep_rules();
-    let found = created(rt, alloc, degree, keeper, index, table, place, prefs)?;
+    wanted.prefs.keep_rules();
+    keep_names(wanted.subs.as_slice());
+    let found = created(rt, alloc, degree, keeper, kind, index, table, place, wanted)?;
     let Some(batch) = found else {
         return Ok(Plan::Refused(Fault::LimitReached));
     };
@@ -213,81 +270,90 @@ fn plan_on<'a, R: Threads + Sync, K: Keeper>(
     alloc: Global,
     degree: u32,
     keeper: &mut K,
+    kind: BuiltKind,
     index: &'a Name,
     table: &Name,
     columns: &[Column],
     place: usize,
-    prefs: &Option<Prefs>,
+    wanted: Option<Wanted>,
 ) -> Result<Plan<'a>, KeepFault>
     requires ready { (K.view keeper.old).ready }
-    requires set { IfSome prefs.now (λ prefs. can_be_set prefs.lexer ≡ true) }
-    ensures plan { OverNamedTable K.view keeper.old table.now (λ m c x. PlansIndex m c x index.now table.now columns.now place prefs.now result) }
+    requires can { IfSome wanted CanBeCreated }
+    ensures plan { OverNamedTable K.view keeper.old table.now (λ m c x. PlansIndex m c x index.now table.now kind columns.now place wanted result) }
     ensures entries { IfOk result IsStorePlan }
     ensures reads { OnlyReads K.view keeper.old keeper.new result }
 {
-    let there = is_taken(alloc, keeper, index, table, place)?;
+    let there = is_taken(alloc, keeper, kind, index, table, place)?;
     let many = has_most_indexes(alloc, keeper, table)?;
     if let Some(fault) = index_fault(
         there,
         is_text_at(columns, place),
-        prefs.is_some(),
+        is_fitting(&wanted, columns),
         many,
         index,
     ) {
         return Ok(Plan::Refused(fault));
     }
-    let Some(prefs) = prefs else {
+    let Some(wanted) = wanted else {
         unreachable!();
     };
-    free_plan(rt, alloc, degree, keeper, index, table, place, prefs)
+    free_plan(rt, alloc, degree, keeper, kind, index, table, place, wanted)
 }
 
-/// What CREATE INDEX comes to.
+/// The columns of a table; none where there is no table.
+fn columns_or_none(columns: &Option<Vec<Column>>) -> &[Column]
+    ensures { result.now ≡ columns_of_table (columns_read columns.now) }
+{
+    match columns {
+        None => &[],
+        Some(columns) => columns.as_slice(),
+    }
+}
+
+/// What CREATE INDEX comes to, where the table has these columns, if it is there.
 fn index_plan<'a, R: Threads + Sync, K: Keeper>(
     rt: &R,
     alloc: Global,
     degree: u32,
     keeper: &mut K,
+    kind: BuiltKind,
     index: &'a Name,
     table: &'a Name,
     column: &'a Name,
-    asked: &'a Asked,
+    columns: &Option<Vec<Column>>,
+    unknown: &'a Option<Name>,
+    wanted: Option<Wanted>,
 ) -> Result<Plan<'a>, KeepFault>
     requires ready { (K.view keeper.old).ready }
-    requires set { IfSome asked.now.prefs (λ prefs. can_be_set prefs.lexer ≡ true) }
-    ensures plan { OverStates K.view keeper.old (λ m c. PlansAsked m c index.now table.now column.now asked.now result) }
+    requires can { IfSome wanted CanBeCreated }
+    ensures plan { OverStates K.view keeper.old (λ m c. PlansAsked m c index.now table.now column.now kind (columns_read columns.now) unknown.now wanted result) }
     ensures entries { IfOk result IsStorePlan }
     ensures reads { OnlyReads K.view keeper.old keeper.new result }
 {
-    let Some(columns) = table_columns(alloc, keeper, table)? else {
+    let Some(columns) = columns else {
         return Ok(Plan::Refused(Fault::UnknownName(table.as_str())));
     };
-    let Some(place) = column_place(column, &columns) else {
+    let Some(place) = column_place(column, columns) else {
         return Ok(Plan::Refused(Fault::UnknownName(column.as_str())));
     };
-    if let Some(name) = &asked.unknown {
+    if let Some(name) = unknown {
         return Ok(Plan::Refused(Fault::UnknownName(name.as_str())));
     }
     plan_on(
-        rt,
-        alloc,
-        degree,
-        keeper,
-        index,
-        table,
-        &columns,
-        place,
-        &asked.prefs,
+        rt, alloc, degree, keeper, kind, index, table, columns, place, wanted,
     )
 }
 
-/// CREATE INDEX of kind CONTEXT: each row of the table becomes a document of the index, which reads texts by a copy of the preferences
-/// that PARAMETERS names. The first of these that holds: E11 where there is no such table, column or preference; E12 where the index
-/// is there, or the column has one; E13 where the column is a NUMBER; E30 where PARAMETERS isn't of its form; E31 where the table has
-/// 16 indexes. At most `degree` threads may read the texts.
+/// CREATE INDEX: each row of the table becomes a document of the new CONTEXT index, or is entered in the new catalogue under its words
+/// in each sub-index. The index reads texts by a copy of the preferences that PARAMETERS names, and a catalogue has a copy of the index
+/// set, so that it stays as it is when these change later. The first of these that holds: E11 where there is no such table, column,
+/// preference or index set, or a column of the index set is not one of the table; E12 where the index is there, or the column has one of
+/// the kind; E13 where the column is a NUMBER; E30 where PARAMETERS isn't of the form that the kind takes, or a column of the index set
+/// is neither a NUMBER nor a VARCHAR2 of at most 100; E31 where the table has 16 indexes. At most `degree` threads may read the texts of
+/// a CONTEXT index.
 ///
-/// Its cost is that of copying the preferences, the length of the entries of all indexes, and what the texts hold, times a logarithm;
-/// all changes are in memory until the commit.
+/// Its cost is that of copying the preferences, the length of the entries of all indexes, and what the texts hold, times a logarithm,
+/// for each sub-index; all changes are in memory until the commit.
 pub fn create_index<R: Threads + Sync, K: Keeper>(
     rt: &R,
     alloc: Global,
@@ -296,16 +362,24 @@ pub fn create_index<R: Threads + Sync, K: Keeper>(
     index: &Name,
     table: &Name,
     column: &Name,
+    kind: BuiltKind,
     parameters: &Option<Text>,
 ) -> Result<Vec<u8>, KeepFault>
     requires { AcceptsStatements (K.view keeper.old) }
-    ensures { Replies K.view keeper.old keeper.new result (λ m. create_index_effect m index.now table.now column.now parameters.now) index_made }
+    ensures { Replies K.view keeper.old keeper.new result (λ m. create_index_effect m index.now table.now column.now kind parameters.now) index_made }
 {
-    let asked = match read_asked(alloc, keeper, parameters) {
+    let columns = match table_columns(alloc, keeper, table) {
+        Ok(columns) => columns,
+        Err(fault) => return Err(fault),
+    };
+    let asked = match read_asked(alloc, keeper, kind, parameters, columns_or_none(&columns)) {
         Ok(asked) => asked,
         Err(fault) => return Err(fault),
     };
-    match index_plan(rt, alloc, degree, keeper, index, table, column, &asked) {
+    let Asked { unknown, wanted } = asked;
+    match index_plan(
+        rt, alloc, degree, keeper, kind, index, table, column, &columns, &unknown, wanted,
+    ) {
         Ok(plan) => carry_out(alloc, keeper, plan, b"Index created.\n"),
         Err(fault) => Err(fault),
     }

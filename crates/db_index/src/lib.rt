@@ -4,10 +4,13 @@
 mod asking;
 mod dropping;
 mod indexing;
+mod kinds;
+mod sub_columns;
 mod syncing;
 mod tokenizing;
 
 pub use dropping::drop_index;
 pub use indexing::create_index;
+pub use kinds::{BuiltKind, built_kind};
 pub use syncing::sync_index;
 pub use tokenizing::policy_tokens;

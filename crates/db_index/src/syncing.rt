@@ -1,13 +1,15 @@
 //! CTX_DDL.SYNC_INDEX.
 #![tactic(auto, using(ct_keep::specs::laws::Composing::reads_on, ct_keep::specs::laws::Composing::reads_short, ct_keep::specs::laws::Composing::accepts_on))]
 
-ghost use Rattle.std.specs.Prelude.{◌≡◌, IfOk, IfSome, Some, None, Err, true, false};
+ghost use Rattle.std.specs.Prelude.{◌≡◌, IfOk, IfSome, Some, is_some};
 ghost use Rattle.std.specs.Option.{option_map};
 ghost use Rattle.ct_keep.specs.KeeperViews.{OnlyReads};
 ghost use Rattle.db_call.specs.Arguments.{argument_name as name_there};
 ghost use Rattle.db_state.specs.States.{OverIndex, Sees};
 ghost use Rattle.db_state.specs.Effects.{Effect, Checks};
-ghost use Rattle.db_index.specs.Syncing.{MakesSync, are_sync_args as sync_args, check_sync, has_index as has_named_index, is_bad_size as bad_size, is_memory_size as memory_size, is_unit as unit_letter, sync_index as sync_effect, unknown_name as name_unknown};
+ghost use Rattle.db_index.specs.Syncing.{MakesSync, are_sync_args as sync_args, check_sync, is_bad_size as bad_size, is_memory_size as memory_size, is_other_kind as other_kind, is_unit as unit_letter, kind_named as kind_of_named, sync_index as sync_effect, unknown_name as name_unknown};
+ghost use Rattle.ix_indexes.specs.Indexes.{kinds};
+ghost use Rattle.db_names.specs.declared.heads.IndexKind.TheVariants as kind;
 ghost use Rattle.db_state.specs.Lines.{call_done};
 ghost use Rattle.db_state.specs.Plans.{IsStorePlan, Plans, Replies, line_for_all};
 ghost use Rattle.db_state.specs.Shapes.{AcceptsStatements, AreStoreChanges};
@@ -16,7 +18,8 @@ use ct_base::Name;
 use ct_keep::{Batch, KeepFault, Keeper};
 use db_call::{are_texts, name_at};
 use db_cond::Fault;
-use db_state::{Plan, carry_out, has_index};
+use db_names::{IndexHead, IndexKind, index_of};
+use db_state::{Plan, carry_out};
 use ix_context::{ContextFault, sync};
 use st_parse::Arg;
 use std::alloc::Global;
@@ -76,12 +79,25 @@ fn unknown_name(there: bool, name: &Option<Name>) -> Option<&str>
     }
 }
 
-/// The first check that fails.
-fn sync_fault<'a>(unknown: Option<&'a str>, args: &[Arg]) -> Option<Fault<'a>>
-    ensures { (done : Effect) → Checks result (check_sync (option_map (λ n. n.now) unknown.entry) args.now done) done }
+/// Whether this is the kind of an index that isn't synchronised.
+fn is_other_kind(kind: Option<IndexKind>) -> bool
+    ensures { result ≡ other_kind kind }
+{
+    match kind {
+        None | Some(IndexKind::Context) => false,
+        Some(IndexKind::Catalogue | IndexKind::Rules) => true,
+    }
+}
+
+/// The first check that fails, by the name that no index has, and whether the index that has it is of another kind.
+fn sync_fault<'a>(unknown: Option<&'a str>, other: bool, args: &[Arg]) -> Option<Fault<'a>>
+    ensures { (done : Effect) → Checks result (check_sync (option_map (λ n. n.now) unknown.entry) other args.now done) done }
 {
     if let Some(name) = unknown {
         return Some(Fault::UnknownName(name));
+    }
+    if other {
+        return Some(Fault::NoIndexOfKind);
     }
     if !are_sync_args(args) {
         return Some(Fault::WrongValues);
@@ -92,23 +108,34 @@ fn sync_fault<'a>(unknown: Option<&'a str>, args: &[Arg]) -> Option<Fault<'a>>
     None
 }
 
-/// Whether an index has the name, if there is one.
-fn has_named<K: Keeper>(
-    alloc: Global,
-    keeper: &mut K,
-    name: &Option<Name>,
-) -> Result<bool, KeepFault>
-    requires { (K.view keeper.old).ready }
-    ensures there { Sees K.view keeper.old result (λ m there. there ≡ has_named_index m name.now) }
-    ensures reads { OnlyReads K.view keeper.old keeper.new result }
+/// The kind in a head, if there is one.
+fn kind_in(head: &Option<IndexHead>) -> Option<IndexKind>
+    ensures { result ≡ option_map (λ h. h.kind) head.now }
 {
-    match name {
-        Some(index) => has_index(alloc, keeper, index),
-        None => Ok(false),
+    match head {
+        None => None,
+        Some(head) => Some(head.kind),
     }
 }
 
-/// The changes of a synchronisation; None where the index would need more documents than there are numbers.
+/// The kind of the index that has the name, if there is one.
+fn kind_named<K: Keeper>(
+    alloc: Global,
+    keeper: &mut K,
+    name: &Option<Name>,
+) -> Result<Option<IndexKind>, KeepFault>
+    requires { (K.view keeper.old).ready }
+    ensures kind { Sees K.view keeper.old result (λ m found. found ≡ kind_of_named m name.now) }
+    ensures reads { OnlyReads K.view keeper.old keeper.new result }
+{
+    let Some(index) = name else {
+        return Ok(None);
+    };
+    let head = index_of(alloc, keeper, index)?;
+    Ok(kind_in(&head))
+}
+
+/// The changes of the synchronisation of a CONTEXT index; None where it would need more documents than there are numbers.
 fn synced<R: Threads + Sync, K: Keeper>(
     rt: &R,
     alloc: Global,
@@ -117,7 +144,7 @@ fn synced<R: Threads + Sync, K: Keeper>(
     index: &Name,
 ) -> Result<Option<Batch>, KeepFault>
     requires { (K.view keeper.old).ready }
-    ensures changes { OverIndex K.view keeper.old index.now (λ m x. IfOk result (MakesSync index.now m x)) }
+    ensures changes { OverIndex K.view keeper.old index.now (λ m x. kinds.kind x.body ≡ kind.Context → IfOk result (MakesSync index.now m x)) }
     ensures entries { IfOk result (λ found. IfSome found AreStoreChanges) }
     ensures reads { OnlyReads K.view keeper.old keeper.new result }
 {
@@ -145,8 +172,9 @@ fn sync_plan<'a, R: Threads + Sync, K: Keeper>(
     ensures entries { IfOk result IsStorePlan }
     ensures reads { OnlyReads K.view keeper.old keeper.new result }
 {
-    let there = has_named(alloc, keeper, name)?;
-    if let Some(fault) = sync_fault(unknown_name(there, name), args) {
+    let kind = kind_named(alloc, keeper, name)?;
+    let unknown = unknown_name(kind.is_some(), name);
+    if let Some(fault) = sync_fault(unknown, is_other_kind(kind), args) {
         return Ok(Plan::Refused(fault));
     }
     let Some(index) = name else {
@@ -159,8 +187,8 @@ fn sync_plan<'a, R: Threads + Sync, K: Keeper>(
     Ok(Plan::Done(batch))
 }
 
-/// CTX_DDL.SYNC_INDEX: each row that waits becomes a document of the index. The first of these that holds: E11 where no index has the
-/// name; E13 where the arguments are neither one text nor two; E30 where the first spells no name, or the second no size of memory;
+/// CTX_DDL.SYNC_INDEX: each row that waits becomes a document of the CONTEXT index. The first of these that holds: E11 where no index has
+/// the name; E27 where the index is a catalogue, in which no row waits; E13 where the arguments are neither one text nor two; E30 where the first spells no name, or the second no size of memory;
 /// E31 where the index would have over 2^32 - 2 documents. At most `degree` threads may read the texts. Its cost is what the texts
 /// hold, times a logarithm.
 pub fn sync_index<R: Threads + Sync, K: Keeper>(

@@ -31,7 +31,7 @@ use Rattle.th_store.specs.laws.Changes.{thesauri_unchanged}
 use Rattle.db_state.specs.laws.ShortRows.{rows_frame}
 use Rattle.db_state.specs.States.{HasShortRows, StoreState, StandsForState, is_built, is_of_rows}
 use Rattle.db_prefs.specs.Defining.{new_changes, with_new}
-use Rattle.ix_context.specs.laws.ContextRows.{context_alone}
+use Rattle.ix_indexes.specs.laws.Indexes.{kinds_laws}
 
 -- what is read of preferences
 -- ---- the kinds of entries
@@ -74,7 +74,7 @@ module _ (c : Content) (m : StoreState) (ps : Preferences) (ws : List (Key × Op
     only = only-after ws c stands.only are;
     unbuilt = λ k h. at-after ws c k ∙ told_frame is_of_preferences ws k (at c k) of (preferences_built k.kind h) ∙ stands.unbuilt k h;
     tables = subst (λ (f : Key → Option (List ℕ)). TablesStand f m.tables) (sym (at_view ws c)) (tables_frame is_of_preferences ws (at c) m.tables of tables_preferences stands.tables);
-    indexes = subst (λ (f : Key → Option (List ℕ)). IndexesStand f m.tables m.indexes) (sym (at_view ws c)) (indexes_frame kinds context_alone is_of_preferences ws (at c) m.tables m.indexes of indexes_preferences stands.indexes);
+    indexes = subst (λ (f : Key → Option (List ℕ)). IndexesStand f m.tables m.indexes) (sym (at_view ws c)) (indexes_frame kinds kinds_laws.alone is_of_preferences ws (at c) m.tables m.indexes of indexes_preferences stands.indexes);
     preferences = subst (λ (f : Key → Option (List ℕ)). PreferencesStand f ps) (sym (at_view ws c)) stand;
     thesauri = thesauri_unchanged is_of_preferences ws c m.thesauri of refl refl stands.thesauri;
     short_rows = subst HasShortRows (sym (at_view ws c)) (rows_frame is_of_preferences ws (at c) of rows_preferences stands.short_rows);

@@ -14,7 +14,7 @@ use Rattle.tb_table.specs.laws.Changes.{is_of_tables, tables_frame}
 use Rattle.ix_kinds.specs.Standing.{is_of_indexes}
 use Rattle.ix_kinds.specs.laws.Standing.{indexes_frame}
 use Rattle.ix_indexes.specs.Indexes.{kinds, IndexesStand}
-use Rattle.ix_context.specs.laws.ContextRows.{context_alone}
+use Rattle.ix_indexes.specs.laws.Indexes.{kinds_laws}
 use Rattle.tx_prefs.specs.Spelling.{PreferencesStand}
 use Rattle.tx_prefs.specs.laws.Changes.{preferences_frame, other_kinds}
 use Rattle.th_graph.specs.Pairs.{stated_pair}
@@ -62,7 +62,7 @@ thesauri_stand c m ts ws stands of are stand rules = record {
   only = only-after ws c stands.only are;
   unbuilt = λ k h. at-after ws c k ∙ told_frame is_of_thesauri ws k (at c k) of (thesauri_built k.kind h) ∙ stands.unbuilt k h;
   tables = subst (λ (f : Key → Option (List ℕ)). TablesStand f m.tables) (sym (at_view ws c)) (tables_frame is_of_thesauri ws (at c) m.tables of tables_thesauri stands.tables);
-  indexes = subst (λ (f : Key → Option (List ℕ)). IndexesStand f m.tables m.indexes) (sym (at_view ws c)) (indexes_frame kinds context_alone is_of_thesauri ws (at c) m.tables m.indexes of indexes_thesauri stands.indexes);
+  indexes = subst (λ (f : Key → Option (List ℕ)). IndexesStand f m.tables m.indexes) (sym (at_view ws c)) (indexes_frame kinds kinds_laws.alone is_of_thesauri ws (at c) m.tables m.indexes of indexes_thesauri stands.indexes);
   preferences = subst (λ (f : Key → Option (List ℕ)). PreferencesStand f m.preferences) (sym (at_view ws c)) (preferences_frame is_of_thesauri ws (at c) m.preferences of (other_kinds is_of_thesauri refl refl refl refl) stands.preferences);
   thesauri = subst (λ (f : Key → Option (List ℕ)). ThesauriStand f ts) (sym (at_view ws c)) stand;
   short_rows = subst HasShortRows (sym (at_view ws c)) (rows_frame is_of_thesauri ws (at c) of rows_thesauri stands.short_rows);

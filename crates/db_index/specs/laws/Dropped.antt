@@ -16,6 +16,7 @@ use Rattle.tb_table.specs.laws.Changes.{tables_frame}
 use Rattle.ix_kinds.specs.Drops.{LosesIndexes}
 use Rattle.ix_kinds.specs.laws.Drops.{drop_stands, drop_keeps}
 use Rattle.ix_indexes.specs.Indexes.{Index, kinds, IndexesStand}
+use Rattle.ix_indexes.specs.laws.Indexes.{kinds_laws}
 use Rattle.ix_indexes.specs.laws.Removing.{remove_loses, all_of_index, removals_are, told_one, none_one}
 use Rattle.tx_prefs.specs.Spelling.{PreferencesStand}
 use Rattle.tx_prefs.specs.laws.Changes.{preferences_frame, other_kinds}
@@ -27,7 +28,6 @@ use Rattle.db_index.specs.Dropping.{with_index_dropped}
 use Rattle.db_state.specs.laws.Kinds.{tables_no_indexes}
 use Rattle.ix_kinds.specs.Standing.{is_of_indexes}
 use Rattle.ix_indexes.specs.Removing.{index_removals}
-use Rattle.ix_context.specs.laws.ContextCreates.{context_laws}
 
 -- a table has no more indexes than before
 few_dropped : (xs : Names Index) (i t : List ℕ) → length (indexes_on xs t) ≤ index_limit → length (indexes_on (remove xs i) t) ≤ index_limit
@@ -48,13 +48,13 @@ dropped_stands c m i stands =
       only = only-after ws c stands.only (removals_are i c stands.only);
       unbuilt = λ k h. at-after ws c k ∙ none_one i c k (at c k) (stands.unbuilt k h);
       tables = subst (λ (f : Key → Option (List ℕ)). TablesStand f m.tables) (sym (at_view ws c)) (tables_frame is_of_indexes ws (at c) m.tables (all_of_index i c) tables_no_indexes stands.tables);
-      indexes = subst (λ (f : Key → Option (List ℕ)). IndexesStand f m.tables (remove m.indexes i)) (sym (at_view ws c)) (drop_stands kinds context_laws (at c) (view ws (at c)) m.tables m.indexes i (loses c m i stands) stands.indexes);
+      indexes = subst (λ (f : Key → Option (List ℕ)). IndexesStand f m.tables (remove m.indexes i)) (sym (at_view ws c)) (drop_stands kinds kinds_laws (at c) (view ws (at c)) m.tables m.indexes i (loses c m i stands) stands.indexes);
       preferences = subst (λ (f : Key → Option (List ℕ)). PreferencesStand f m.preferences) (sym (at_view ws c)) (preferences_frame is_of_indexes ws (at c) m.preferences (all_of_index i c) (other_kinds is_of_indexes refl refl refl refl) stands.preferences);
       thesauri = thesauri_unchanged is_of_indexes ws c m.thesauri (all_of_index i c) refl refl stands.thesauri;
       short_rows = subst HasShortRows (sym (at_view ws c)) (rows_left (at c) (view ws (at c)) (λ k v has. told_one i c k (at c k) v has) stands.short_rows);
       state = record {
         tables = stands.state.tables;
-        indexes = drop_keeps kinds context_laws m.tables m.indexes i stands.state.indexes;
+        indexes = drop_keeps kinds kinds_laws m.tables m.indexes i stands.state.indexes;
         views = stands.state.views;
         preferences = stands.state.preferences;
         thesauri = stands.state.thesauri;

@@ -1,17 +1,16 @@
 -- The state after a synchronisation, and after a new index.
-use Rattle.std.proofs.Common.{◌≡◌, ℕ, ℤ, pos, negsuc, ◌+◌, ◌-◌, ◌^◌, ◌≤◌, ◌<◌, Bool, false, true, cond, List, [], ◌∷◌, length, Option, Some, None, refl, sym, ap, subst, ◌∙◌, arith}
-use Rattle.std.specs.Prelude.{is_some, ◌&&◌, ◌==◌, not, nat_le, int_lt}
-use Rattle.std.specs.List.{list_any}
-use Rattle.std.specs.declared.cmp.Ordering.TheVariants.{Less, Equal, Greater}
-use Rattle.std.specs.Ordering.{nat_cmp, int_cmp, is_lt, eq_by_cmp}
+use Rattle.std.proofs.Common.{◌≡◌, ℕ, ◌+◌, ◌≤◌, ◌<◌, Bool, false, true, cond, List, [], ◌∷◌, length, Option, Some, None, refl, sym, ap, subst, ◌∙◌, arith}
+use Rattle.std.specs.Prelude.{is_some, ◌&&◌, ◌==◌, nat_le}
+use Rattle.std.specs.List.{list_all, list_any}
+use Rattle.std.specs.Ordering.{nat_cmp, eq_by_cmp}
 use Rattle.std.specs.Cmp.Lexicographic.{slice_cmp}
 use Rattle.std.specs.FinMap.{get, insert, entries, find, get-entries}
-use Rattle.std.proofs.lemmas.Bool.{leb-true, leb-false, le-ltb, eq-eqb, and_from, or_parts as either}
+use Rattle.std.proofs.lemmas.Bool.{leb-true, leb-false, eq-eqb, and_from, or_parts as either}
 use Rattle.std.proofs.lemmas.Cmp.{nat_list_cmp_total}
 use Rattle.ct_base.specs.laws.Bools.{not_false}
 use Rattle.ct_keep.specs.Content.{Content, after}
-use Rattle.ct_base.specs.Names.{IsName}
-use Rattle.ct_entry.specs.Keys.{Key, at, same_list, IsRow}
+use Rattle.ct_base.specs.Names.{IsName, is_kept}
+use Rattle.ct_entry.specs.Keys.{Key, at, same_list}
 use Rattle.ct_entry.specs.laws.Keys.{list_from_same, list_same}
 use Rattle.ct_entry.specs.Maps.{Names, altered}
 use Rattle.ct_entry.specs.Changes.{spell}
@@ -19,34 +18,42 @@ use Rattle.ct_entry.specs.laws.Changes.{at_view, at-after, only-after, told_fram
 use Rattle.tb_table.specs.Tables.{Table, Tables}
 use Rattle.tb_table.specs.Spelling.{TablesStand}
 use Rattle.tb_table.specs.laws.Changes.{tables_frame}
-use Rattle.tx_settings.specs.declared.preferences.Prefs.{Prefs}
 use Rattle.tx_settings.specs.PrefsBytes.{IsPrefs}
-use Rattle.ix_kinds.specs.Rows.{table_at}
+use Rattle.tx_sets.specs.Sets.{are_sub_indexes}
+use Rattle.ix_kinds.specs.Rows.{table_at, table_or_none}
 use Rattle.ix_kinds.specs.Targets.{IsTarget, is_text_at}
+use Rattle.ix_kinds.specs.Indextypes.{IndexOf, with_body}
+use Rattle.ix_kinds.specs.Standing.{is_of_indexes}
+use Rattle.ix_kinds.specs.IndextypeLaws.{is_its}
 use Rattle.ix_kinds.specs.Statements.{index_after_sync, indexes_after_sync, new_index, with_index, IsFreeColumn}
 use Rattle.ix_kinds.specs.laws.Syncs.{sync_stands, sync_keeps}
 use Rattle.ix_kinds.specs.laws.Creates.{create_stands, create_keeps}
 use Rattle.db_names.specs.declared.heads.IndexKind.{IndexKind}
-use Rattle.db_names.specs.declared.heads.IndexKind.TheVariants.{Context}
+use Rattle.db_names.specs.declared.heads.IndexKind.TheVariants as kept
 use Rattle.db_names.specs.Heads.{index_code}
 use Rattle.db_state.specs.Lookups.{is_on_column}
-use Rattle.ix_context.specs.Indexes.{mark_limit, HasAllRows, rows_within}
-use Rattle.ix_context.specs.laws.Well.{AreIndexChanges, are_changes, all_of_context, index_changes_sync, index_changes_create}
-use Rattle.ix_indexes.specs.Indexes.{Index, kinds, IndexesStand, pending_rows}
-use Rattle.ix_indexes.specs.laws.Indexes.{context_is}
+use Rattle.ix_context.specs.Indexes.{ContextIndex, mark_limit, waiting_rows}
+use Rattle.ix_context.specs.Spelling.{is_of_context}
+use Rattle.ix_context.specs.laws.Well.{AreIndexChanges, are_changes, all_of_context, index_changes_sync}
+use Rattle.ix_indexes.specs.Indexes.{Index, as_index, kinds, IndexesStand}
+use Rattle.ix_indexes.specs.laws.Indexes.{context_is, is_context, kinds_laws}
 use Rattle.ix_kinds.specs.laws.Tables.{table_is}
+use Rattle.db_index.specs.declared.kinds.BuiltKind.{BuiltKind}
+use Rattle.db_index.specs.declared.kinds.BuiltKind.TheVariants.{Context, Catalogue}
+use Rattle.db_index.specs.declared.asking.Wanted.{Wanted}
+use Rattle.db_index.specs.Kinds.{index_kind}
+use Rattle.db_index.specs.Asking.{are_sub_columns}
 use Rattle.db_index.specs.Syncing.{has_too_many, with_synced}
-use Rattle.db_index.specs.Indexing.{has_index_on, has_too_many_rows, all_rows, target, with_new_index, IsFreeIndex}
+use Rattle.db_index.specs.Indexing.{asked_for, has_index_on, has_too_many_rows, target, with_new_index, IsFreeIndex}
 use Rattle.tx_prefs.specs.Spelling.{PreferencesStand}
 use Rattle.tx_prefs.specs.laws.Changes.{preferences_frame, other_kinds}
 use Rattle.th_store.specs.laws.Changes.{thesauri_unchanged}
 use Rattle.db_state.specs.laws.ShortRows.{rows_put}
-use Rattle.db_state.specs.laws.Kinds.{context_built, tables_no_context}
+use Rattle.db_state.specs.laws.Kinds.{context_built, tables_no_context, tables_no_indexes}
 use Rattle.db_state.specs.States.{StoreState, IsState, StandsForState, HasShortRows, indexes_on, index_limit}
 use Rattle.db_index.specs.laws.Counting.{one, counted, count_insert, one_true, one_false}
+use Rattle.db_index.specs.laws.Created.{created_are, created_built, created_of, created_short, may_ask}
 use Rattle.ct_base.specs.laws.Options.{no_value as no_some}
-use Rattle.ix_context.specs.laws.ContextCreates.{context_laws}
-use Rattle.ix_context.specs.Spelling.{is_of_context}
 
 -- ---- the state after a synchronisation
 
@@ -68,35 +75,45 @@ few_synced ts xs i x there t =
         let same : counted {K = List ℕ} (slice_cmp nat_cmp) (λ (z : Index). same_list z.table t) (Some y) ≡ one (same_list x.table t) = ap (counted {K = List ℕ} (slice_cmp nat_cmp) (λ (z : Index). same_list z.table t)) e in
         omega (arith, counts, same)
 
--- the changes are ones of the entries of indexes
-sync_changes_are : (m : StoreState) (i : List ℕ) (x : Index) → IsState m → get m.indexes i ≡ Some x → has_too_many x ≡ false → AreIndexChanges (kinds.sync_changes tt (table_at m.tables x.table) i x)
+-- the changes are ones of the entries of CONTEXT indexes
+sync_changes_are : (m : StoreState) (i : List ℕ) (x : IndexOf ContextIndex) → IsState m → get m.indexes i ≡ Some (as_index x) → has_too_many (as_index x) ≡ false
+    → AreIndexChanges (kinds.sync_changes tt (table_at m.tables x.table) i (as_index x))
 sync_changes_are m i x state there few =
-    let index = state.indexes.each i x there in
-    index_changes_sync (table_at m.tables x.table) i x (table_is m.tables x.table index.target.table state.tables index.target.there) (state.indexes.names i x there) (state.tables.names x.table index.target.table index.target.there)
-    index.prefs (context_is m.tables x index) (leb-true (x.body.part.given + length (pending_rows x)) mark_limit (room_left x few))
+    let index = state.indexes.each i (as_index x) there in
+    index_changes_sync (table_at m.tables x.table) i x (table_is m.tables x.table index.target.table state.tables index.target.there) (state.indexes.names i (as_index x) there) (state.tables.names x.table index.target.table index.target.there)
+    index.prefs (context_is m.tables x index) (leb-true (x.body.part.given + length (waiting_rows x.body.marks)) mark_limit (room_left (as_index x) few))
 
-pub synced_stands : (c : Content) (m : StoreState) (i : List ℕ) (x : Index) → StandsForState c m → get m.indexes i ≡ Some x → has_too_many x ≡ false
-    → StandsForState (after (spell (kinds.sync_changes tt (table_at m.tables x.table) i x)) c) (with_synced m i)
-synced_stands c m i x stands there few =
-    let ws = kinds.sync_changes tt (table_at m.tables x.table) i x in
+context_synced : (c : Content) (m : StoreState) (i : List ℕ) (x : IndexOf ContextIndex) → StandsForState c m → get m.indexes i ≡ Some (as_index x) → has_too_many (as_index x) ≡ false
+    → StandsForState (after (spell (kinds.sync_changes tt (table_at m.tables x.table) i (as_index x))) c) (with_synced m i)
+context_synced c m i x stands there few =
+    let ws = kinds.sync_changes tt (table_at m.tables x.table) i (as_index x) in
     let are = sync_changes_are m i x stands.state there few in
     record {
       only = only-after ws c stands.only (are_changes ws are);
       unbuilt = λ k h. at-after ws c k ∙ told_frame is_of_context ws k (at c k) (all_of_context ws are) (context_built k.kind h) ∙ stands.unbuilt k h;
       tables = subst (λ (f : Key → Option (List ℕ)). TablesStand f m.tables) (sym (at_view ws c)) (tables_frame is_of_context ws (at c) m.tables (all_of_context ws are) tables_no_context stands.tables);
-      indexes = subst (λ (f : Key → Option (List ℕ)). IndexesStand f m.tables (indexes_after_sync kinds tt m.tables i m.indexes)) (sym (at_view ws c)) (sync_stands kinds context_laws (at c) m.tables m.indexes tt i x there (room_left x few) stands.state.tables stands.state.indexes stands.indexes);
+      indexes = subst (λ (f : Key → Option (List ℕ)). IndexesStand f m.tables (indexes_after_sync kinds tt m.tables i m.indexes)) (sym (at_view ws c))
+          (sync_stands kinds kinds_laws (at c) m.tables m.indexes tt i (as_index x) there (room_left (as_index x) few) stands.state.tables stands.state.indexes stands.indexes);
       preferences = subst (λ (f : Key → Option (List ℕ)). PreferencesStand f m.preferences) (sym (at_view ws c)) (preferences_frame is_of_context ws (at c) m.preferences (all_of_context ws are) (other_kinds is_of_context refl refl refl refl) stands.preferences);
       thesauri = thesauri_unchanged is_of_context ws c m.thesauri (all_of_context ws are) refl refl stands.thesauri;
       short_rows = subst HasShortRows (sym (at_view ws c)) (rows_put ws (at c) are stands.short_rows);
       state = record {
         tables = stands.state.tables;
-        indexes = sync_keeps kinds context_laws m.tables m.indexes tt i x there (room_left x few) stands.state.tables stands.state.indexes;
+        indexes = sync_keeps kinds kinds_laws m.tables m.indexes tt i (as_index x) there (room_left (as_index x) few) stands.state.tables stands.state.indexes;
         views = stands.state.views;
         preferences = stands.state.preferences;
         thesauri = stands.state.thesauri;
-        few = λ t. subst (λ (n : ℕ). n ≤ index_limit) (sym (few_synced m.tables m.indexes i x there t)) (stands.state.few t);
+        few = λ t. subst (λ (n : ℕ). n ≤ index_limit) (sym (few_synced m.tables m.indexes i (as_index x) there t)) (stands.state.few t);
       };
     }
+
+-- of an index of the kind CONTEXT
+pub synced_stands : (c : Content) (m : StoreState) (i : List ℕ) (x : Index) → kinds.kind x.body ≡ kept.Context → StandsForState c m → get m.indexes i ≡ Some x → has_too_many x ≡ false
+    → StandsForState (after (spell (kinds.sync_changes tt (table_at m.tables x.table) i x)) c) (with_synced m i)
+synced_stands c m i x of stands there few =
+    let y = is_context x of in
+    subst (λ (z : Index). StandsForState (after (spell (kinds.sync_changes tt (table_at m.tables z.table) i z)) c) (with_synced m i)) (sym y.1)
+    (context_synced c m i (with_body x y.0) stands (there ∙ ap Some y.1) (sym (ap has_too_many y.1) ∙ few))
 
 -- ---- the state after a new index
 
@@ -124,27 +141,6 @@ column_free kind xs t place h j y is table column of_kind =
     let wrong : true ≡ false = sym yes ∙ none in
     cc
 
-pub every_row : HasAllRows all_rows
-every_row r row = both_in (is_lt (int_cmp r all_rows.from.0)) (is_lt (int_cmp all_rows.to.0 r)) (not_below r row) (not_above r row)
-  where
-    both_in : (a b : Bool) → a ≡ false → b ≡ false → (not a && not b) ≡ true
-    both_in true b h k = cc
-    both_in false true h k = cc
-    both_in false false h k = refl
-
-    not_less : (a b : Bool) → a ≡ false → is_lt (cond a Less (cond b Greater Equal)) ≡ false
-    not_less true b h = cc
-    not_less false true h = refl
-    not_less false false h = refl
-
-    not_below : (r : ℤ) → IsRow r → is_lt (int_cmp r all_rows.from.0) ≡ false
-    not_below (pos n) row = refl
-    not_below (negsuc n) row = not_less (int_lt (negsuc n) all_rows.from.0) (int_lt all_rows.from.0 (negsuc n)) (le-ltb (2 ^ 63 - 1) n (omega arith))
-
-    not_above : (r : ℤ) → IsRow r → is_lt (int_cmp all_rows.to.0 r) ≡ false
-    not_above (pos n) row = not_less (int_lt all_rows.to.0 (pos n)) (int_lt (pos n) all_rows.to.0) (le-ltb (2 ^ 63 - 1) n (omega arith))
-    not_above (negsuc n) row = refl
-
 -- a table has at most one index more
 few_created : (xs : Names Index) (i : List ℕ) (x : Index) → get xs i ≡ None → (t : List ℕ) → length (indexes_on xs x.table) < index_limit → ((q : List ℕ) → length (indexes_on xs q) ≤ index_limit)
     → length (indexes_on (insert xs i x) t) ≤ index_limit
@@ -165,32 +161,46 @@ few_created xs i x none t room few =
         let more : one (same_list x.table t) ≡ 0 = ap one is ∙ one_false in
         omega (arith, counts, free, more, few)
 
-pub new_index_stands : (c : Content) (m : StoreState) (i t : List ℕ) (x : Table) (place : ℕ) (prefs : Prefs) → StandsForState c m → IsName i
-    → IsPrefs prefs → IsFreeIndex m i t x place
-    → StandsForState (after (spell (kinds.create_changes all_rows tt (table_at m.tables t) i (target t place) prefs)) c) (with_new_index m i t place prefs)
-new_index_stands c m i t x place prefs stands name are_prefs free =
-    let ws = kinds.create_changes all_rows tt (table_at m.tables t) i (target t place) prefs in
-    let few = either (nat_le index_limit (length (indexes_on m.indexes t))) (has_too_many_rows m t) free.few in
-    let room : kinds.can_create (table_at m.tables t) all_rows ≡ true = not_false (kinds.can_create (table_at m.tables t) all_rows) few.1 in
-    let rows = leb-true (length (rows_within (table_at m.tables t) all_rows)) mark_limit room in
-    let taken = either (is_some (get m.indexes i)) (has_index_on Context m.indexes t place) free.free in
+of_kind : (b : BuiltKind) (w : Wanted) (ts : Tables) (t : List ℕ) (place : ℕ) → kinds.kind (new_index kinds (asked_for b w) tt ts (target t place) w.prefs).body ≡ index_kind b
+of_kind Context w ts t place = refl
+of_kind Catalogue w ts t place = refl
+
+pub new_index_stands : (c : Content) (m : StoreState) (i t : List ℕ) (b : BuiltKind) (x : Table) (place : ℕ) (w : Wanted) → StandsForState c m → IsName i → IsPrefs w.prefs → are_sub_indexes w.subs ≡ true
+    → list_all (list_all is_kept) w.subs ≡ true → IsFreeIndex m i t b x place w
+    → StandsForState (after (spell (kinds.create_changes (asked_for b w) tt (table_at m.tables t) i (target t place) w.prefs)) c) (with_new_index m i t b place w)
+new_index_stands c m i t b x place w stands name are_prefs subs named free =
+    let a = asked_for b w in
+    let here : table_at m.tables t ≡ x = ap table_or_none free.there in
+    let ws = kinds.create_changes a tt (table_at m.tables t) i (target t place) w.prefs in
+    let few = either (nat_le index_limit (length (indexes_on m.indexes t))) (has_too_many_rows m t b w) free.few in
+    let room : kinds.can_create (table_at m.tables t) a ≡ true = not_false (kinds.can_create (table_at m.tables t) a) few.1 in
+    let taken = either (is_some (get m.indexes i)) (has_index_on (index_kind b) m.indexes t place) free.free in
     let none : get m.indexes i ≡ None = no_some (get m.indexes i) taken.0 in
-    let are = index_changes_create (table_at m.tables t) i (target t place) prefs all_rows (table_is m.tables t x stands.state.tables free.there) name (stands.state.tables.names t x free.there) are_prefs rows in
+    let asked : kinds.asks (table_at m.tables t) w.prefs a = may_ask b w (table_at m.tables t) subs named (ap (λ (y : Table). are_sub_columns y.columns w.subs) here ∙ free.subs) free.sections in
+    let is_t = table_is m.tables t x stands.state.tables free.there in
+    let table = stands.state.tables.names t x free.there in
+    let of = created_of w (table_at m.tables t) i (target t place) b in
     let on = target_of_texts m t x place free.there free.texts in
     record {
-      only = only-after ws c stands.only (are_changes ws are);
-      unbuilt = λ k h. at-after ws c k ∙ told_frame is_of_context ws k (at c k) (all_of_context ws are) (context_built k.kind h) ∙ stands.unbuilt k h;
-      tables = subst (λ (f : Key → Option (List ℕ)). TablesStand f m.tables) (sym (at_view ws c)) (tables_frame is_of_context ws (at c) m.tables (all_of_context ws are) tables_no_context stands.tables);
-      indexes = subst (λ (f : Key → Option (List ℕ)). IndexesStand f m.tables (with_index kinds all_rows tt m.tables i (target t place) prefs m.indexes)) (sym (at_view ws c)) (create_stands kinds context_laws (at c) m.tables m.indexes all_rows tt i (target t place) prefs none on are_prefs every_row room stands.state.tables stands.indexes);
-      preferences = subst (λ (f : Key → Option (List ℕ)). PreferencesStand f m.preferences) (sym (at_view ws c)) (preferences_frame is_of_context ws (at c) m.preferences (all_of_context ws are) (other_kinds is_of_context refl refl refl refl) stands.preferences);
-      thesauri = thesauri_unchanged is_of_context ws c m.thesauri (all_of_context ws are) refl refl stands.thesauri;
-      short_rows = subst HasShortRows (sym (at_view ws c)) (rows_put ws (at c) are stands.short_rows);
+      only = only-after ws c stands.only (created_are w (table_at m.tables t) i (target t place) is_t name table are_prefs b asked room);
+      unbuilt = λ k h.
+          at-after ws c k
+          ∙ told_frame (is_its kinds (kinds.new_body a tt (table_at m.tables t) (target t place) w.prefs)) ws k (at c k) (kinds_laws.creates.of a tt (table_at m.tables t) i (target t place) w.prefs)
+          (created_built w (table_at m.tables t) i (target t place) b k.kind h)
+          ∙ stands.unbuilt k h;
+      tables = subst (λ (f : Key → Option (List ℕ)). TablesStand f m.tables) (sym (at_view ws c)) (tables_frame is_of_indexes ws (at c) m.tables of tables_no_indexes stands.tables);
+      indexes = subst (λ (f : Key → Option (List ℕ)). IndexesStand f m.tables (with_index kinds a tt m.tables i (target t place) w.prefs m.indexes)) (sym (at_view ws c))
+          (create_stands kinds kinds_laws (at c) m.tables m.indexes a tt i (target t place) w.prefs none on are_prefs asked room stands.state.tables stands.indexes);
+      preferences = subst (λ (f : Key → Option (List ℕ)). PreferencesStand f m.preferences) (sym (at_view ws c)) (preferences_frame is_of_indexes ws (at c) m.preferences of (other_kinds is_of_indexes refl refl refl refl) stands.preferences);
+      thesauri = thesauri_unchanged is_of_indexes ws c m.thesauri of refl refl stands.thesauri;
+      short_rows = subst HasShortRows (sym (at_view ws c)) (created_short w (table_at m.tables t) i (target t place) is_t name table are_prefs b (at c) room stands.short_rows);
       state = record {
         tables = stands.state.tables;
-        indexes = create_keeps kinds context_laws m.tables m.indexes all_rows tt i (target t place) prefs name none on are_prefs (column_free Context m.indexes t place taken.1) every_row room stands.state.tables stands.state.indexes;
+        indexes = create_keeps kinds kinds_laws m.tables m.indexes a tt i (target t place) w.prefs name none on are_prefs
+            (subst (IsFreeColumn kinds m.indexes (target t place)) (sym (of_kind b w m.tables t place)) (column_free (index_kind b) m.indexes t place taken.1)) asked room stands.state.tables stands.state.indexes;
         views = stands.state.views;
         preferences = stands.state.preferences;
         thesauri = stands.state.thesauri;
-        few = λ q. few_created m.indexes i (new_index kinds all_rows tt m.tables (target t place) prefs) none q (leb-false index_limit (length (indexes_on m.indexes t)) few.0) stands.state.few;
+        few = λ q. few_created m.indexes i (new_index kinds a tt m.tables (target t place) w.prefs) none q (leb-false index_limit (length (indexes_on m.indexes t)) few.0) stands.state.few;
       };
     }

@@ -1,17 +1,14 @@
-use Rattle.db_state.specs.Plans.{line_for_all}
-use Rattle.std.proofs.Common.{ap, sym, ◌∙◌, List, Bool, Some, None, refl}
-use Rattle.std.specs.Prelude.{not}
-use Rattle.std.specs.Bool.{if◌then◌else◌}
+use Rattle.std.proofs.Common.{ap, sym, List, None, Option, refl, ◌∙◌}
+use Rattle.std.specs.Prelude.{is_some}
 use Rattle.std.proofs.lemmas.Result.{err_from_is_err_and, IfOk-weaker}
 use Rattle.ct_keep.specs.KeeperViews.{fault_of}
 use Rattle.ct_keep.specs.laws.Composing.{reads_none}
 use Rattle.st_parse.specs.declared.statements.ColumnText.{ColumnText}
 use Rattle.st_parse.specs.declared.statements.Statement.{Statement}
 use Rattle.st_parse.specs.declared.statements.Statement.TheVariants.{Commit}
-use Rattle.db_cond.specs.Faults.{NotUnderstood}
-use Rattle.db_state.specs.Effects.{refuse, reply_by}
+use Rattle.db_state.specs.Effects.{reply_by}
 use Rattle.db_change.specs.Creating.{create_table}
-use Rattle.db_index.specs.Indexing.{create_index, index_created}
+use Rattle.db_index.specs.declared.kinds.BuiltKind.{BuiltKind}
 use Rattle.db_change.specs.Inserting.{insert_into}
 use Rattle.db_change.specs.Updating.{update}
 use Rattle.db_change.specs.Deleting.{delete_from}
@@ -25,8 +22,8 @@ use Rattle.db_select.specs.Statements.{select_statement}
 use Rattle.db_select.specs.laws.Allowing.{select_within}
 use Rattle.db_select.specs.laws.Selects.{statement_keeps}
 use Rattle.db_engine.specs.Looking.{allowance}
-use Rattle.db_engine.specs.Steps.{effect}
-use Rattle.db_engine.specs.Executing.{done_line, is_fixed}
+use Rattle.db_engine.specs.Steps.{create_index_if, effect}
+use Rattle.db_engine.specs.Executing.{done_line, index_line, is_fixed}
 use Rattle.db_state.specs.laws.Serving.{serves_short, serves_look, serves_as}
 use Rattle.db_engine.proofs.executing.reply_to.Goals as goal
 
@@ -37,10 +34,10 @@ returns-in-CreateTable-clause-serves g c =
 
 pub returns-in-CreateIndex-clause-serves : goal.returns-in-CreateIndex-clause-serves
 returns-in-CreateIndex-clause-serves g c =
-    let kind = c.in-CreateIndex.kind in let parameters = c.in-CreateIndex.parameters in let parallel = c.in-CreateIndex.parallel in
     serves_as _ _ _ _ _ _ c.index_statement.result
-    (λ m. ap (effect m) c.in-CreateIndex.is ∙ ap (λ (b : Bool). refuse (not b) NotUnderstood (create_index m c.in-CreateIndex.name c.in-CreateIndex.table c.in-CreateIndex.column c.in-CreateIndex.parameters)) (sym c.is_built_index-built.ensures))
-    (ap done_line c.in-CreateIndex.is ∙ ap (λ (b : Bool). if b then Some (line_for_all index_created) else None) (sym c.is_built_index-built.ensures)) c.index_statement.ensures.serves
+    (λ m. ap (effect m) c.in-CreateIndex.is
+    ∙ ap (λ (o : Option BuiltKind). create_index_if o m c.in-CreateIndex.name c.in-CreateIndex.table c.in-CreateIndex.column c.in-CreateIndex.parameters) (sym c.built_index-built.ensures))
+    (ap done_line c.in-CreateIndex.is ∙ ap (λ (o : Option BuiltKind). index_line (is_some o)) (sym c.built_index-built.ensures)) c.index_statement.ensures.serves
 
 pub returns-in-Insert-clause-serves : goal.returns-in-Insert-clause-serves
 returns-in-Insert-clause-serves g c =

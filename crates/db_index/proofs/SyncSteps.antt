@@ -1,0 +1,29 @@
+-- What is put for the synchronisation of a CONTEXT index.
+use Rattle.std.proofs.Common.{◌≡◌, ℕ, ◌≤◌, ◌<◌, ◌++◌, List, [], Option, Some, sym, ap, subst, ◌∙◌}
+use Rattle.std.specs.Prelude.{not, true}
+use Rattle.std.specs.FinMap.{get}
+use Rattle.std.proofs.lemmas.Bool.{le-leb, lt-leb}
+use Rattle.ct_entry.specs.Changes.{spell}
+use Rattle.db_names.specs.declared.heads.IndexKind.TheVariants.{Context}
+use Rattle.ix_kinds.specs.Rows.{table_at}
+use Rattle.ix_kinds.specs.Indextypes.{IndexOf, with_body}
+use Rattle.ix_context.specs.Indexes.{ContextIndex, mark_limit}
+use Rattle.ix_context.specs.Sees.{given_after_sync, synced_changes_of}
+use Rattle.ix_indexes.specs.Indexes.{Index, as_index, kinds}
+use Rattle.ix_indexes.specs.laws.Indexes.{is_context}
+use Rattle.db_state.specs.States.{StoreState}
+use Rattle.db_index.specs.Syncing.{MakesSync, has_too_many}
+
+-- an index of the kind, as one
+pub context_of : (m : StoreState) (i : List ℕ) (x : Index) → get m.indexes i ≡ Some x → kinds.kind x.body ≡ Context → (y : IndexOf ContextIndex) × (x ≡ as_index y) × (get m.indexes i ≡ Some (as_index y))
+context_of m i x there of = let c = is_context x of in (with_body x c.0, c.1, there ∙ ap Some c.1)
+
+pub sync_makes : (i : List ℕ) (m : StoreState) (x : Index) (y : IndexOf ContextIndex) → x ≡ as_index y → (none new : List (List ℕ × Option (List ℕ))) → none ≡ []
+    → given_after_sync y ≤ mark_limit → new ≡ none ++ spell (synced_changes_of i (table_at m.tables y.table) y) → MakesSync i m x (Some new)
+sync_makes i m x y is none new empty room added =
+    let changes = spell (synced_changes_of i (table_at m.tables y.table) y) in
+    subst (λ (z : Index). MakesSync i m z (Some new)) (sym is)
+    (ap not (le-leb (given_after_sync y) mark_limit room), added ∙ ap (λ (old : List (List ℕ × Option (List ℕ))). old ++ changes) empty)
+
+pub sync_makes_none : (x : Index) (y : IndexOf ContextIndex) → x ≡ as_index y → mark_limit < given_after_sync y → has_too_many x ≡ true
+sync_makes_none x y is many = ap has_too_many is ∙ ap not (lt-leb (given_after_sync y) mark_limit many)
