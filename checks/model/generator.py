@@ -19,8 +19,8 @@ from model import STATEMENT_LIMIT, answer
 from preferences import ATTRIBUTES, FLAGS, SET_LIMIT, SETS, SINGLES, WITHOUT_EFFECT
 from procedures import FIELD_LIMIT, LIST_LIMIT, STOPWORD_LIMIT, STOPWORD_SIZE, SUB_INDEX_LIMIT, TAG_LIMIT, ZONE_LIMIT
 from query_maker import QueryMaker
-from state import Column, Index, State, Table, Value
-from statements import TABLE_LIMIT
+from state import Column, Index, Kind, State, SubIndexes, Table, Value
+from statements import COLUMN_LIMIT, INDEX_LIMIT, PARAMETERS, PARAMETERS_OF, TABLE_LIMIT
 from texts import WHITE_SPACE, ascii_lower, ascii_upper, is_word, tokens
 from thesauri import EXPANSION_LIMIT, RELATIONS, Pair
 from vocabulary import (
@@ -335,40 +335,58 @@ class Maker:
         return ["DROP", "INDEX", self.known(self.state.indexes, INDEXES)]
 
     def create_index(self) -> list[str]:
+        """Makes an index of some kind on a column that has none of its kind, most of the time."""
+        return self.create_index_of(self.random.choice(self.index_kinds()))
+
+    def create_catalogue(self) -> list[str]:
+        return self.create_index_of("CTXCAT")
+
+    def index_kinds(self) -> list[Kind]:
+        return ["CONTEXT", "CONTEXT", "CTXCAT"] if "CATALOGUES" in self.built else ["CONTEXT"]
+
+    def create_index_of(self, kind: Kind) -> list[str]:
         name, table = self.table()
-        free = [it for it in self.state.tables if self.free_columns(it)]
+        free = [it for it in self.state.tables if self.free_columns(it, kind)]
         if free and not self.goes_wrong():
             name = self.one_of(free)
             table = self.state.tables[name]
-        column = self.column(table, lambda it: it in self.free_columns(name))
+        column = self.column(table, lambda it: it in self.free_columns(name, kind))
         index = self.new(self.state.indexes, INDEXES)
         owner = ["CTXSYS", "."] if self.chance(0.7) else []
-        parameters = ["PARAMETERS", "(", quoted(self.parameters()), ")"] if self.chance(0.75) else []
-        return ["CREATE", "INDEX", index, "ON", name, "(", column.name, ")", "INDEXTYPE", "IS", *owner, "CONTEXT", *parameters]
+        parameters = ["PARAMETERS", "(", quoted(self.parameters(kind, table)), ")"] if self.chance(0.75) else []
+        return ["CREATE", "INDEX", index, "ON", name, "(", column.name, ")", "INDEXTYPE", "IS", *owner, kind, *parameters]
 
-    def free_columns(self, table: str) -> list[Column]:
-        """Returns the columns of a table that can have an index and have none yet."""
+    def free_columns(self, table: str, kind: Kind) -> list[Column]:
+        """Returns the columns of a table that can have an index of this kind and have none yet."""
         columns = self.state.tables[table].columns if table in self.state.tables else ()
-        return [it for place, it in enumerate(columns) if it.is_text and self.state.index_on(table, place) is None]
+        return [it for place, it in enumerate(columns) if it.is_text and self.state.index_on(table, place, kind) is None]
 
-    def parameters(self) -> str:
-        """Returns a text of PARAMETERS, most of the time of what is there."""
+    def parameters(self, kind: Kind, table: Table) -> str:
+        """Returns a text of PARAMETERS for an index on a table, most of the time of what is there and fits it."""
         state = self.state
-        kinds: list[tuple[str, Iterable[str], Sequence[str], str]] = [
-            ("LEXER", state.preferences, PREFERENCES, "CTXSYS.DEFAULT_LEXER"),
-            ("STOPLIST", state.stoplists, STOPLISTS, "CTXSYS.EMPTY_STOPLIST"),
-            ("SECTION GROUP", state.groups, GROUPS, "CTXSYS.NULL_SECTION_GROUP"),
-        ]
-        self.random.shuffle(kinds)
+        fitting = [name for name, sub_indexes in state.index_sets.items() if sub_indexes and self.fits(table, sub_indexes)]
+        sets = fitting if fitting and not self.goes_wrong() and self.chance(0.85) else state.index_sets
+        lists: dict[str, tuple[Iterable[str], Sequence[str]]] = {
+            "LEXER": (state.preferences, PREFERENCES),
+            "STOPLIST": (state.stoplists, STOPLISTS),
+            "SECTION GROUP": (state.groups, GROUPS),
+            "INDEX SET": (sets, INDEX_SETS),
+        }
         words: list[str] = []
-        for kind, there, names, default in kinds:
+        for parameter in self.random.sample(PARAMETERS_OF[kind], len(PARAMETERS_OF[kind])):
+            (there, names), default = lists[parameter], PARAMETERS[parameter]
             if self.chance(0.8 if list(there) else 0.1):
-                is_default = self.chance(0.1) or not (list(there) or self.goes_wrong())
-                words += [*kind.split(), default if is_default else self.known(there, names)]
+                is_default = default is not None and (self.chance(0.1) or not (list(there) or self.goes_wrong()))
+                words += [*parameter.split(), default if is_default and default is not None else self.known(there, names)]
         if self.goes_wrong():
             words = self.wrong_parameters(words)
         begin = self.parameter_blank() if self.chance(0.1) else ""
         return begin + "".join(self.cased(word) + self.parameter_blank() for word in words)
+
+    def fits(self, table: Table, sub_indexes: SubIndexes) -> bool:
+        """Returns whether a catalogue on a table may have these sub-indexes."""
+        columns = [table.column(name) for names in sub_indexes for name in names]
+        return all(column is not None and column.fits_sub_index for column in columns)
 
     def wrong_parameters(self, words: list[str]) -> list[str]:
         """Returns the words with some of them dropped, others put between, or all of them doubled."""
@@ -431,8 +449,11 @@ class Maker:
         """Returns an UPDATE, often of one row, and at times to the values that it has."""
         name, table = self.table()
         row = dict(zip(table.names, map(literal, self.random.choice(list(table.rows.values()) or [()]))))
-        places = [index.place for index in self.state.indexes_of(name)]
-        indexed = [table.columns[place] for place in places] if self.chance(0.5) else []
+        indexes = self.state.indexes_of(name) if self.chance(0.5) else []
+        indexed = [table.columns[index.place] for index in indexes]
+        subs = [table.column(column) for index in indexes for columns in index.sub_indexes for column in columns]
+        indexed += [column for column in subs if column is not None and column != table.columns[0]]
+        self.random.shuffle(indexed)
         columns = list(dict.fromkeys([*indexed[:1], self.column(table, lambda it: it != table.columns[0])]))
         if self.goes_wrong():
             columns.append(columns[0])
@@ -455,11 +476,12 @@ class Maker:
         return self.select_by(self.query_of_one)
 
     def select_by(self, make_query: Callable[[Sequence[str], Index | None], str]) -> list[str]:
-        if not self.state.indexes or self.goes_wrong():
+        indexes = [index for index in self.state.indexes.values() if index.kind == "CONTEXT" or self.chance(0.05)]
+        if not indexes or self.goes_wrong():
             (name, table), texts, index = self.table(), [], None
             column = self.column(table)
         else:
-            index = self.random.choice(list(self.state.indexes.values()))
+            index = self.random.choice(indexes)
             name, table = index.table, self.state.tables[index.table]
             texts = [*(str(row[index.place]) for row in table.rows.values()), *index.lost[-3:]]
             column = table.columns[index.place]
@@ -597,10 +619,15 @@ class Maker:
         return self.call("CTX_DDL", "CREATE_INDEX_SET", [name, *its_type])
 
     def add_index(self) -> list[str]:
-        """Adds a sub-index of one to three columns, at times the same ones again; where it goes wrong of more, or by a text that is no list."""
+        """Adds a sub-index of one to three columns, at times the same ones again; where it goes wrong of more, or by a text that is no list.
+
+        Most of the time a table that has the columns of the set has these too.
+        """
         name = self.known(self.state.index_sets, INDEX_SETS)
         count = self.random.choice([1, 1, 2, 2, 3, 4] if self.goes_wrong() else [1, 1, 2, 2, 3])
-        columns = [self.cased(self.one_of(STRANGE_NAMES[:8] if self.chance(0.05) else COLUMNS)) for _ in range(count)]
+        tables = [table for table in self.state.tables.values() if self.fits(table, self.state.index_sets.get(name, ()))]
+        names = COLUMNS if not tables or self.chance(0.1) else [it.name for it in self.random.choice(tables).columns if it.fits_sub_index]
+        columns = [self.cased(self.one_of(STRANGE_NAMES[:8] if self.chance(0.03) else names)) for _ in range(count)]
         if self.goes_wrong():
             columns[self.random.randrange(count)] = self.one_of(NO_COLUMNS)
         return self.call("CTX_DDL", "ADD_INDEX", [self.named(name), quoted(",".join(map(self.with_blanks, columns)))])
@@ -658,7 +685,8 @@ class Maker:
         return self.run_of_words(texts, index)
 
     def sync(self) -> list[str]:
-        first = self.named(self.known(self.state.indexes, INDEXES))
+        indexes = [name for name, index in self.state.indexes.items() if index.kind == "CONTEXT" or self.chance(0.2)]
+        first = self.named(self.known(indexes, INDEXES))
         wrong_memories = ["'M'", "'16 M'", "'16MB'", "'-1K'", "'١K'", "''", "'16'", "16"]
         memory = self.one_of(wrong_memories if self.goes_wrong() else ["'16M'", "'0k'", "'007G'"])
         return self.call("CTX_DDL", "SYNC_INDEX", [first, *([memory] if self.chance(0.3) else [])])
@@ -694,6 +722,12 @@ class Maker:
             relations = [self.create_thesaurus, *[self.create_relation] * several([4, 8, 16])]
             relations += [*[self.insert] * 4, self.sync, *[self.select_by_one] * 5]
         rows = [self.insert] * several([1, 2, 4])
+        if "CATALOGUES" in self.built and self.chance(0.5):
+            if self.chance(0.8):
+                kinds += [self.create_index_set, *[self.add_index] * several([1, 1, 2, 3])]
+            kinds += several([[*rows, self.create_catalogue], [self.create_catalogue, *rows]])
+            if self.chance(0.4):
+                return kinds
         return [*kinds, *several([[*rows, self.create_index], [self.create_index, *rows, self.sync]]), *relations]
 
     def statement(self) -> list[str]:
@@ -703,31 +737,31 @@ class Maker:
         """
         if self.planned:
             return self.planned.pop(0)()
-        tables, indexes = self.state.tables, self.state.indexes
-        if self.has_changed and indexes and self.chance(0.5):
+        tables, searched = self.state.tables, [it for it in self.state.indexes.values() if it.kind == "CONTEXT"]
+        if self.has_changed and searched and self.chance(0.5):
             return self.random.choice([self.select, self.select, self.view])()
         rows = sum(len(table.rows) for table in tables.values())
         preferences, stoplists, groups = self.state.preferences, self.state.stoplists, self.state.groups
         has_lists = preferences or stoplists or groups
-        has_free = any(map(self.free_columns, tables))
+        has_free = any(self.free_columns(table, kind) for table in tables for kind in self.index_kinds())
         kinds: list[tuple[Callable[[], list[str]], int]] = [
             (self.create_table, 3 if tables else 300),
             (self.insert, 1 if not tables else 40 if rows < 4 else 14),
-            (self.create_index, 1 if not has_free else 5 if indexes or not has_lists else 20),
+            (self.create_index, 1 if not has_free else 5 if self.state.indexes or not has_lists else 20),
             (self.create_preference, 2 if preferences else 4),
             (self.set_attribute, 8 if preferences else 1),
             (self.create_stoplist, 2 if stoplists else 3),
             (self.add_stopword, 5 if stoplists else 1),
             (self.create_group, 2 if groups else 4),
             (self.add_section, 9 if groups else 1),
-            (self.sync, 12 if indexes else 1),
-            (self.select, 25 if indexes else 2),
+            (self.sync, 12 if searched else 1),
+            (self.select, 25 if searched else 2),
             (self.plain_select, 7),
             (self.view, 4),
             (self.update, 12 if rows else 1),
             (self.delete, 4 if rows else 1),
             (self.drop_table, 1),
-            (self.drop_index, 3 if indexes else 1),
+            (self.drop_index, 3 if self.state.indexes else 1),
             (self.policy_tokens, 7),
             (self.commit, 1),
             (self.no_statement, 2),
@@ -736,7 +770,7 @@ class Maker:
             kinds += [(self.create_index_set, 1 if self.state.index_sets else 3), (self.add_index, 5 if self.state.index_sets else 1)]
         if "THESAURI" in self.built:
             kinds += [(self.create_thesaurus, 1 if self.state.thesauri else 4), (self.create_relation, 12 if self.state.thesauri else 1)]
-        if indexes and ("WILDCARDS" in self.built or self.state.thesauri):
+        if searched and ("WILDCARDS" in self.built or self.state.thesauri):
             kinds.append((self.select_by_one, 14))
         makes, weights = zip(*kinds)
         return self.random.choices(makes, weights)[0]()
@@ -800,6 +834,8 @@ class Maker:
         if "INDEX-SETS" in self.built:
             sub_indexes = [f"EXEC CTX_DDL.ADD_INDEX('many', '{self.one_of(['id', 'price,id', 'c,b,a'])}')" for _ in range(SUB_INDEX_LIMIT + 1)]
             ways += [[f"EXEC CTX_DDL.CREATE_INDEX_SET('many{i}')" for i in range(LIST_LIMIT + 1)], ["EXEC CTX_DDL.CREATE_INDEX_SET('many')", *sub_indexes]]
+        if "CATALOGUES" in self.built:
+            ways.append(self.many_indexes())
         if "THESAURI" in self.built:
             ways += [[f"EXEC CTX_THES.CREATE_THESAURUS('many{i}')" for i in range(LIST_LIMIT + 1)], self.many_terms()]
         statements = self.random.choice(ways)
@@ -809,6 +845,16 @@ class Maker:
         for statement in statements:
             self.follow(statement.encode())
         return [f"{statement};\n".encode() for statement in statements]
+
+    def many_indexes(self) -> list[str]:
+        """Returns statements that make so many indexes on a table as it may have, of both kinds, and one more."""
+        columns = [f"c{i}" for i in range(1, COLUMN_LIMIT)]
+        places = [(column, kind) for column in columns for kind in ("CONTEXT", "CTXCAT")]
+        chosen = self.random.sample(places, INDEX_LIMIT + 1)
+        table = ", ".join(["id NUMBER PRIMARY KEY", *(f"{column} VARCHAR2(100)" for column in columns)])
+        indexes = [f"CREATE INDEX many{i} ON many({column}) INDEXTYPE IS {kind}" for i, (column, kind) in enumerate(chosen)]
+        values = ", ".join(quoted(self.word()[:20]) for _ in columns)
+        return [f"CREATE TABLE many ({table})", *indexes[:-1], f"INSERT INTO many VALUES (1, {values})", indexes[-1], "DROP INDEX many0", indexes[-1]]
 
     def many_terms(self) -> list[str]:
         """Returns statements that relate so many terms as an operator may have, and one more, with queries before the last one and behind it."""

@@ -26,7 +26,7 @@ from procedures import (
     SyncIndex,
 )
 from reduction import SEARCHES
-from state import Column, Operand
+from state import Column, Kind, Operand
 from statements import (
     COMPARISONS,
     VIEWS,
@@ -161,11 +161,18 @@ class Parser:
         self.expect("INDEXTYPE", "IS")
         if self.takes("CTXSYS"):
             self.expect(".")
-        self.expect("CONTEXT")
+        kind = self.index_kind()
         if not self.takes("PARAMETERS"):
-            return CreateIndex(index, table, column)
+            return CreateIndex(index, table, column, kind)
         self.need("PARAMETERS")
-        return CreateIndex(index, table, column, self.bracketed(lambda: self.value_of("text")))
+        return CreateIndex(index, table, column, kind, self.bracketed(lambda: self.value_of("text")))
+
+    def index_kind(self) -> Kind:
+        if self.takes("CTXCAT"):
+            self.need("CATALOGUES")
+            return "CTXCAT"
+        self.expect("CONTEXT")
+        return "CONTEXT"
 
     def create_table(self) -> Statement:
         name = self.name()

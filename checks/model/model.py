@@ -24,7 +24,7 @@ from state import State
 from statements import NOT_UNDERSTOOD, TOO_LONG_STATEMENT, rank
 from weights import least_weight, room
 
-# What is built, beside CREATE TABLE, CREATE INDEX, INSERT, SYNC_INDEX, POLICY_TOKENS and a SELECT of columns and scores by one
+# What is built, beside CREATE TABLE, CREATE INDEX of the kind CONTEXT, INSERT, SYNC_INDEX, POLICY_TOKENS and a SELECT of columns and scores by one
 # CONTAINS. A statement that needs anything else isn't understood. What queries may have that is searched only where it is built
 # has names too (`reduction.SEARCHES`): a query that needs one that isn't built is refused by E21, at the place 1.
 BUILT = frozenset({
@@ -42,6 +42,7 @@ BUILT = frozenset({
     "SECTION-GROUPS",  # CREATE_SECTION_GROUP, ADD_ZONE_SECTION, ADD_FIELD_SECTION, ADD_SPECIAL_SECTION
     "INDEX-SETS",  # CREATE_INDEX_SET, ADD_INDEX
     "PARAMETERS",  # PARAMETERS of a CREATE INDEX
+    "CATALOGUES",  # CREATE INDEX of the kind CTXCAT
     "OPERATORS",  # queries of several words, weights and thresholds
     "PHRASES",
     "NEAR",
@@ -58,8 +59,8 @@ STATEMENT_LIMIT = 65_536
 class Answer:
     """What is to be answered to a statement, where the store has room for it.
 
-    What a store weighs is known but for its postings. A statement changes them only where it makes rows synchronised, and then
-    they and the other entries both weigh more; so it is known whether a store weighs more after a statement.
+    What a store weighs is known but for the postings of CONTEXT indexes. A statement changes them only where it makes rows synchronised, and
+    then they and the other entries both weigh more; so it is known whether a store weighs more after a statement.
     """
 
     reply: str

@@ -15,6 +15,7 @@ from state import TEXT_LIMIT, State
 from statements import (
     BAD_VALUE,
     LIMIT_REACHED,
+    NO_INDEX,
     TOO_LONG_VALUE,
     WRONG_VALUES,
     Refusals,
@@ -345,8 +346,13 @@ class CreateRelation(Call):
 
 
 class SyncIndex(Call):
+    """Takes the rows that wait into an index of the kind CONTEXT. No row waits in a catalogue, which is refused."""
+
     def refusals(self, state: State) -> Refusals:
         yield from self.unknown_name(0, state.indexes)
+        index = state.indexes.get(self.name(0) or "")
+        if index is not None and index.kind != "CONTEXT":
+            yield NO_INDEX
         if not self.has_texts(1, 2):
             yield WRONG_VALUES
         elif self.name(0) is None or not all(re.fullmatch("[0-9]+[KMGkmg]", str(memory)) for memory in self.arguments[1:]):

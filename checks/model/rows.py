@@ -18,7 +18,7 @@ sys.dont_write_bytecode = True  # no folder of compiled modules is left here
 from model import BUILT, replies
 
 SHORT = {"[ok]": "PL/SQL procedure successfully completed.", "[none]": "no rows selected"}
-STATEMENT = re.compile(r"(?:EXEC|CREATE|INSERT|SELECT|UPDATE|DELETE) .*?;\n", re.DOTALL)
+STATEMENT = re.compile(r"(?:EXEC|CREATE|DROP|INSERT|SELECT|UPDATE|DELETE) .*?;\n", re.DOTALL)
 
 TABLE = """\
 CREATE TABLE docs (id NUMBER PRIMARY KEY, body CLOB, price NUMBER);
@@ -275,6 +275,57 @@ E31: limit reached
 EXEC CTX_DDL.ADD_INDEX('iset','1');
 E30: bad attribute or value
 """,
+    # names that stand in the statement, then the columns of the set; a catalogue and a CONTEXT index may be on one column
+    "catalogues and their index sets": TABLE
+    + """\
+EXEC CTX_DDL.CREATE_INDEX_SET('iset');
+[ok]
+EXEC CTX_DDL.ADD_INDEX('iset','price,id');
+[ok]
+EXEC CTX_DDL.CREATE_INDEX_SET('other');
+[ok]
+EXEC CTX_DDL.ADD_INDEX('other','body,size');
+[ok]
+CREATE INDEX ci ON docs(body) INDEXTYPE IS CTXCAT PARAMETERS ('INDEX SET other LEXER nope');
+E11: unknown name nope
+CREATE INDEX ci ON docs(price) INDEXTYPE IS CTXCAT PARAMETERS ('INDEX SET other');
+E11: unknown name size
+CREATE INDEX ci ON docs(body) INDEXTYPE IS CTXSYS.CTXCAT PARAMETERS ('index set ISET');
+Index created.
+EXEC CTX_DDL.ADD_INDEX('iset','body');
+[ok]
+CREATE INDEX ci ON docs(price) INDEXTYPE IS CTXCAT PARAMETERS ('INDEX SET iset');
+E12: ci exists already
+CREATE INDEX cj ON docs(price) INDEXTYPE IS CTXCAT PARAMETERS ('INDEX SET iset');
+E13: wrong type or number of values
+CREATE INDEX cj ON docs(body) INDEXTYPE IS CTXCAT PARAMETERS ('INDEX SET iset');
+E12: cj exists already
+"""
+    + index("")
+    + ROW.format(key=1, text="red hat")
+    + """\
+SELECT * FROM ctx_user_pending;
+di|1
+EXEC CTX_DDL.SYNC_INDEX('nope',1);
+E11: unknown name nope
+EXEC CTX_DDL.SYNC_INDEX('ci',1);
+E27: no index of that kind
+"""
+    + SYNC
+    + search("hat", "1|1")
+    + """\
+DROP INDEX ci;
+Index dropped.
+CREATE INDEX ci ON docs(body) INDEXTYPE IS CTXCAT PARAMETERS ('INDEX SET iset');
+E30: bad attribute or value
+CREATE INDEX ci ON docs(body) INDEXTYPE IS CTXCAT PARAMETERS ('INDEX SET nope SECTION GROUP nope');
+E30: bad attribute or value
+CREATE INDEX ci ON docs(body) INDEXTYPE IS CTXCAT;
+Index created.
+DROP INDEX di;
+Index dropped.
+"""
+    + search("hat", "E27: no index of that kind"),
     "scores are at most 100, and are weighed": table_of(" ".join(["quick"] * 101), "quick")
     + search("quick", "1|100", "2|1")
     + search("quick*0.1", "1|10", "2|1")

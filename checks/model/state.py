@@ -11,10 +11,12 @@ from lexemes import Beyond, Whole
 from thesauri import Thesaurus
 
 TEXT_LIMIT = 4000
+SUB_TEXT_LIMIT = 100  # how many bytes a text in a column of a sub-index has at most
 
 Operand = str | int | Beyond
 Value = str | int
 SubIndexes = tuple[tuple[str, ...], ...]  # the columns of each, in order of adding
+Kind = Literal["CONTEXT", "CTXCAT"]  # of an index
 
 
 @dataclass(frozen=True)
@@ -29,6 +31,11 @@ class Column:
 
     def takes(self, operand: Operand) -> bool:
         return isinstance(operand, str) == self.is_text
+
+    @property
+    def fits_sub_index(self) -> bool:
+        """Returns whether a sub-index of a catalogue may have it."""
+        return not self.is_text or (self.sort == "VARCHAR2" and isinstance(self.size, int) and self.size <= SUB_TEXT_LIMIT)
 
     def is_too_long(self, operand: Operand) -> bool:
         return isinstance(operand, str) and isinstance(self.size, int) and len(operand.encode()) > self.size
@@ -53,10 +60,14 @@ class Table:
 
 @dataclass
 class Index:
+    """An index. One of the kind CONTEXT has the rows that are synchronised, and a catalogue always has all rows of its table."""
+
+    kind: Kind
     table: str
     place: int  # of its column
     prefs: Prefs
-    pending: set[int]  # the keys of the rows that wait; the other rows of the table are synchronised
+    sub_indexes: SubIndexes = ()  # of a catalogue
+    pending: set[int] = field(default_factory=set)  # the keys of the rows that wait; the other rows of the table are synchronised
     lost: list[str] = field(default_factory=list)  # the texts that it has lost, whose postings may still be stored
 
 
@@ -77,11 +88,13 @@ class State:
         lists = dict(self.stoplists), dict(self.groups), dict(self.index_sets), dict(self.thesauri)
         return State(tables, preferences, *lists, indexes)
 
-    def indexes_of(self, table: str) -> list[Index]:
-        return [index for index in self.indexes.values() if index.table == table]
+    def indexes_of(self, table: str, *kinds: Kind) -> list[Index]:
+        """Returns the indexes on a table, of one of these kinds where some are given."""
+        return [index for index in self.indexes.values() if index.table == table and (not kinds or index.kind in kinds)]
 
-    def index_on(self, table: str, place: int | None) -> Index | None:
-        return next((index for index in self.indexes_of(table) if index.place == place), None)
+    def index_on(self, table: str, place: int | None, kind: Kind) -> Index | None:
+        """Returns the index of this kind on a column, of which there is one at most."""
+        return next((index for index in self.indexes_of(table, kind) if index.place == place), None)
 
     def synchronised_texts(self, index: Index) -> Iterator[tuple[int, str]]:
         for key, values in self.tables[index.table].rows.items():

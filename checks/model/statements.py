@@ -14,7 +14,7 @@ from lexemes import Beyond, Whole, is_name
 from preferences import lexer_options, stop_keys
 from reduction import Context, NotSearched, searched
 from scores import score
-from state import TEXT_LIMIT, Column, Index, Operand, State, Table, Value
+from state import TEXT_LIMIT, Column, Index, Kind, Operand, State, SubIndexes, Table, Value
 from texts import SCORE_LIMIT, WHITE_SPACE, ascii_lower, ascii_upper
 
 TABLE_LIMIT = 64
@@ -156,16 +156,25 @@ class DropTable(Statement):
         return "Table dropped.\n"
 
 
-# what an index may copy: each is named in PARAMETERS by these words and a name, or by the name of the default
-PARAMETERS = {"LEXER": "CTXSYS.DEFAULT_LEXER", "STOPLIST": "CTXSYS.EMPTY_STOPLIST", "SECTION GROUP": "CTXSYS.NULL_SECTION_GROUP"}
+# what an index may copy: each is named in PARAMETERS by these words and a name, or by the name of the default, if there is one
+PARAMETERS = {
+    "LEXER": "CTXSYS.DEFAULT_LEXER",
+    "STOPLIST": "CTXSYS.EMPTY_STOPLIST",
+    "SECTION GROUP": "CTXSYS.NULL_SECTION_GROUP",
+    "INDEX SET": None,
+}
+PARAMETERS_OF: dict[Kind, tuple[str, ...]] = {
+    "CONTEXT": ("LEXER", "STOPLIST", "SECTION GROUP"),
+    "CTXCAT": ("LEXER", "STOPLIST", "INDEX SET"),
+}
 
 
-def read_parameters(text: str) -> dict[str, str | None] | None:
-    """Returns what a text of PARAMETERS names, in its order, with None for a default; or None where it isn't of its form."""
+def read_parameters(text: str, index_kind: Kind) -> dict[str, str | None] | None:
+    """Returns what a text of PARAMETERS names, in its order, with None for a default; or None where it isn't of the form that this kind takes."""
     words = re.sub(f"[{WHITE_SPACE}]+", " ", text).strip(" ")
     names: dict[str, str | None] = {}
     while words:
-        kind = next((it for it in PARAMETERS if ascii_upper(words).startswith(it + " ")), None)
+        kind = next((it for it in PARAMETERS_OF[index_kind] if ascii_upper(words).startswith(it + " ")), None)
         if kind is None or kind in names:
             return None
         name, _, words = words[len(kind) + 1 :].partition(" ")
@@ -181,22 +190,34 @@ class CreateIndex(Statement):
     name: str
     table: str
     column: str
+    kind: Kind
     parameters: str = ""
     takes_room = True
 
+    @property
+    def names(self) -> dict[str, str | None]:
+        """Returns what the parameters name. A text that isn't of its form names nothing."""
+        return read_parameters(self.parameters, self.kind) or {}
+
     def unknown_parameters(self, state: State) -> Refusals:
-        there = {"LEXER": state.preferences, "STOPLIST": state.stoplists, "SECTION GROUP": state.groups}
-        for kind, name in (read_parameters(self.parameters) or {}).items():
+        there = {"LEXER": state.preferences, "STOPLIST": state.stoplists, "SECTION GROUP": state.groups, "INDEX SET": state.index_sets}
+        for kind, name in self.names.items():
             if name is not None and name not in there[kind]:
                 yield unknown(name)
 
     def prefs(self, state: State) -> Prefs:
-        """Returns a copy of what the parameters name."""
-        names = read_parameters(self.parameters) or {}
-        lexer, stoplist, group = (names.get(kind) for kind in PARAMETERS)
+        """Returns a copy of the preferences that the parameters name."""
+        lexer, stoplist, group = (self.names.get(kind) for kind in ("LEXER", "STOPLIST", "SECTION GROUP"))
         options = lexer_options(state.preferences[lexer] if lexer is not None else {})
         words = state.stoplists[stoplist] if stoplist is not None else ()
         return Prefs(options, stop_keys(words, options), state.groups[group] if group is not None else Group())
+
+    def sub_indexes(self, state: State) -> SubIndexes:
+        """Returns a copy of the sub-indexes of the index set that the parameters name; none where they name no set that is there."""
+        return state.index_sets.get(self.names.get("INDEX SET") or "", ())
+
+    def sub_columns(self, state: State) -> list[str]:
+        return [column for columns in self.sub_indexes(state) for column in columns]
 
     def refusals(self, state: State) -> Refusals:
         table = state.tables.get(self.table)
@@ -205,12 +226,16 @@ class CreateIndex(Statement):
             return
         yield from unknown_columns(table, [self.column])
         yield from self.unknown_parameters(state)
-        if self.name in state.indexes or state.index_on(self.table, table.place(self.column)) is not None:
+        # the columns of the set don't stand in the statement, and so come behind the names that do
+        yield from unknown_columns(table, self.sub_columns(state))
+        if self.name in state.indexes or state.index_on(self.table, table.place(self.column), self.kind) is not None:
             yield exists(self.name)
         column = table.column(self.column)
         if column is not None and not column.is_text:
             yield WRONG_VALUES
-        if read_parameters(self.parameters) is None:
+        if read_parameters(self.parameters, self.kind) is None:
+            yield BAD_VALUE
+        if not all(column.fits_sub_index for column in map(table.column, self.sub_columns(state)) if column is not None):
             yield BAD_VALUE
         if len(state.indexes_of(self.table)) >= INDEX_LIMIT:
             yield LIMIT_REACHED
@@ -218,7 +243,7 @@ class CreateIndex(Statement):
     def effect(self, state: State) -> str:
         place = state.tables[self.table].place(self.column)
         assert place is not None
-        state.indexes[self.name] = Index(self.table, place, self.prefs(state), pending=set())
+        state.indexes[self.name] = Index(self.kind, self.table, place, self.prefs(state), self.sub_indexes(state))
         return "Index created.\n"
 
 
@@ -276,7 +301,7 @@ class Insert(Statement):
         key = row[0]
         assert isinstance(key, int)
         table.rows[key] = row
-        for index in state.indexes_of(self.table):
+        for index in state.indexes_of(self.table, "CONTEXT"):
             index.pending.add(key)
         return count_of(1, "created")
 
@@ -345,7 +370,7 @@ class Update(Statement):
         changes = {table.place(name): value for name, value in self.assigns if not isinstance(value, Beyond)}
         met = keys_that_meet(table, self.conditions)
         for key in met:
-            for index in state.indexes_of(self.table):
+            for index in state.indexes_of(self.table, "CONTEXT"):
                 if index.place in changes:
                     state.lose_document(index, key)
                     index.pending.add(key)
@@ -371,7 +396,7 @@ class Delete(Statement):
         table = state.tables[self.table]
         met = keys_that_meet(table, self.conditions)
         for key in met:
-            for index in state.indexes_of(self.table):
+            for index in state.indexes_of(self.table, "CONTEXT"):
                 state.lose_document(index, key)
             del table.rows[key]
         return count_of(len(met), "deleted")
@@ -433,7 +458,7 @@ class Select(Statement):
             return
         names = [item for item in self.items if isinstance(item, str)]
         yield from unknown_columns(table, [*names, *(predicate.column for predicate in self.predicates)])
-        if self.contains is not None and state.index_on(self.table, table.place(self.contains.column)) is None:
+        if self.contains is not None and state.index_on(self.table, table.place(self.contains.column), "CONTEXT") is None:
             yield NO_INDEX
         label = None if self.contains is None else self.contains.label
         if any(item.label != label for item in self.scores):
@@ -448,7 +473,7 @@ class Select(Statement):
             return
         if isinstance(contains.label, Beyond) or not isinstance(contains.above, int) or contains.above > SCORE_LIMIT:
             yield OUT_OF_RANGE
-        index = state.index_on(self.table, state.tables[self.table].place(contains.column))
+        index = state.index_on(self.table, state.tables[self.table].place(contains.column), "CONTEXT")
         try:
             searched(contains.query, Context(Prefs() if index is None else index.prefs, state.thesauri), contains.unbuilt)
         except NotSearched as fault:
@@ -460,7 +485,7 @@ class Select(Statement):
         keys = keys_that_meet(table, self.conditions)
         if self.contains is None:
             return [(key, 0) for key in keys]
-        index = state.index_on(self.table, table.place(self.contains.column))
+        index = state.index_on(self.table, table.place(self.contains.column), "CONTEXT")
         assert index is not None and isinstance(self.contains.above, int)
         query = searched(self.contains.query, Context(index.prefs, state.thesauri), self.contains.unbuilt)
         scores = {key: score(query, document(index.prefs, text)) for key, text in state.synchronised_texts(index)}

@@ -4,9 +4,9 @@ from __future__ import annotations
 
 from collections.abc import Iterable
 
-from documents import Group, Prefs, document
+from documents import MAIN_STREAM, Group, Prefs, document
 from preferences import changed_options
-from state import Index, State, SubIndexes, Table
+from state import Index, State, SubIndexes, Table, Value
 from texts import KEY_LIMIT
 from thesauri import Thesaurus
 
@@ -114,25 +114,53 @@ def preferences_weight(state: State) -> int:
     return weight + sum(entry_weight(1 + name_length(name), group_length(it)) for name, it in state.groups.items())
 
 
-def index_weight(name: str, index: Index, rows: int, resume_place: int) -> int:
-    """Returns the weight of the entries of an index of so many rows, without postings.
-
-    Its own entry has one byte each for the kind, the column, the transactional flag, the empty list of sub-indexes and the
-    tidiness.
-    """
+def own_weight(name: str, index: Index, resume_place: int) -> int:
+    """Returns the weight of an index's own entry, which has one byte each for the kind, the column, the transactional flag and the tidiness."""
     options, stop_keys = changed_options(index.prefs.lexer), index.prefs.stop_keys
     copied = attributes_length(options) + list_length(map(text_length, stop_keys)) + group_length(index.prefs.group)
-    weight = entry_weight(1 + name_length(name), text_length(index.table) + 5 + copied + DOCUMENT + resume_place)
+    lists = copied + sub_indexes_length(index.sub_indexes)
+    return entry_weight(1 + name_length(name), text_length(index.table) + 4 + lists + DOCUMENT + resume_place)
+
+
+def key_value_length(value: Value) -> int:
+    """Returns the bytes of a value in a key: a number is as the key of a row."""
+    return name_length(value) if isinstance(value, str) else ROW_KEY
+
+
+def catalogue_weight(name: str, index: Index, table: Table) -> int:
+    """Returns the weight of the entries of a catalogue: its own, and one for each row, each word of its text and each sub-index.
+
+    The plain sub-index, which has no columns, counts too. The key of a word's entry has one byte for the number of the sub-index.
+    """
+    weight = own_weight(name, index, NO_RESUME_PLACE)
+    for row in table.rows.values():
+        by_name = dict(zip(table.names, row))
+        words = {key for stream, key in document(index.prefs, str(row[index.place])).positions() if stream == MAIN_STREAM}
+        for columns in [(), *index.sub_indexes]:
+            values = sum(key_value_length(by_name[column]) for column in columns)
+            weight += sum(entry_weight(1 + name_length(name) + 1 + name_length(word) + values + ROW_KEY, 0) for word in words)
+    return weight
+
+
+def context_weight(name: str, index: Index, rows: int, resume_place: int) -> int:
+    """Returns the weight of the entries of a CONTEXT index of so many rows, without postings."""
+    weight = own_weight(name, index, resume_place)
     synchronised = rows - len(index.pending)
     weight += synchronised * entry_weight(1 + name_length(name) + DOCUMENT, ROW_KEY)
     weight += synchronised * entry_weight(1 + name_length(name) + ROW_KEY, DOCUMENT)
     return weight + len(index.pending) * entry_weight(1 + name_length(name) + ROW_KEY, 0)
 
 
+def index_weight(name: str, index: Index, table: Table, resume_place: int) -> int:
+    """Returns the weight of the entries of an index, without postings. A catalogue, which isn't optimised, has no place to resume at."""
+    if index.kind == "CTXCAT":
+        return catalogue_weight(name, index, table)
+    return context_weight(name, index, len(table.rows), resume_place)
+
+
 def weight_but_postings(state: State, resume_place: int) -> int:
     tables = sum(table_weight(name, table) for name, table in state.tables.items())
-    rows = {name: len(state.tables[index.table].rows) for name, index in state.indexes.items()}
-    indexes = sum(index_weight(name, index, rows[name], resume_place) for name, index in state.indexes.items())
+    indexes = sum(index_weight(name, index, state.tables[index.table], resume_place) for name, index in state.indexes.items())
     return tables + preferences_weight(state) + indexes
 
 
@@ -140,8 +168,9 @@ def room(state: State) -> int:
     """Returns what a store of this state weighs at most."""
     weight = weight_but_postings(state, LONGEST_RESUME_PLACE)
     for name, index in state.indexes.items():
-        texts = [*index.lost, *(text for _, text in state.synchronised_texts(index))]
-        weight += sum(document_cost(name, index.prefs, text) for text in texts)
+        if index.kind == "CONTEXT":
+            texts = [*index.lost, *(text for _, text in state.synchronised_texts(index))]
+            weight += sum(document_cost(name, index.prefs, text) for text in texts)
     return weight
 
 

@@ -59,7 +59,7 @@ EXEC CTX_DDL.ADD_INDEX('iset','c 17');
 EXEC CTX_DDL.ADD_INDEX('docs','　price ,id ');
 EXEC CTX_DDL.ADD_INDEX('docs','​price');
 EXEC CTX_DDL.ADD_INDEX('docs','prıce');
--- no index has a set yet
+-- a catalogue takes a set, whose columns its table has to have; a CONTEXT index takes none
 CREATE INDEX di ON docs(body) INDEXTYPE IS CTXSYS.CTXCAT PARAMETERS ('INDEX SET iset');
 CREATE TABLE more (id NUMBER PRIMARY KEY, body CLOB);
 CREATE INDEX mi ON more(body) INDEXTYPE IS CTXSYS.CONTEXT PARAMETERS ('INDEX SET iset');
