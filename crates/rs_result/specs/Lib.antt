@@ -1,0 +1,4 @@
+pub mod Comparing
+pub mod Sorting
+pub mod Orders
+pub mod laws
