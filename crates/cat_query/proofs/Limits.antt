@@ -159,7 +159,7 @@ few_bytes text small = ltb-false query_limit (byte_count text) (first (nat_lt 40
     first true b h = cc
     first false b h = refl
 
-query_keeps_limits : (text : List ℕ) (t : Tree) → IsQuery (bare (query_lexemes text)) t → too_large text ≡ false → keeps_limits t ≡ true
+pub query_keeps_limits : (text : List ℕ) (t : Tree) → IsQuery (bare (query_lexemes text)) t → too_large text ≡ false → keeps_limits t ≡ true
 unfolding AreShort
 query_keeps_limits text t q small =
     ap keeps_limits (sym q.means)

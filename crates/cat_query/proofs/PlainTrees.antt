@@ -13,7 +13,7 @@ joined_plain Adjacent s t left right = and_from (is_plain_tree (meaning s)) (is_
 joined_plain Without s t left right = and_from (is_plain_tree (meaning s)) (is_plain_tree (meaning t)) left right
 joined_plain Either s t left right = and_from (is_plain_tree (meaning s)) (is_plain_tree (meaning t)) left right
 
-text_plain : (t : Text) → is_plain_tree (meaning t) ≡ true
+pub text_plain : (t : Text) → is_plain_tree (meaning t) ≡ true
 text_plain (One w) = refl
 text_plain (Group t) = text_plain t
 text_plain (Two j s t) = joined_plain j s t (text_plain s) (text_plain t)
