@@ -1,7 +1,11 @@
 pub mod Arms
 pub mod First
+pub mod GatheredPlaces
+pub mod GatheredStops
+pub mod Lengths
 pub mod Listing
 pub mod Looks
-pub mod Orders
 pub mod Parts
+pub mod ScannedKeys
+pub mod Sorting
 pub mod Steps

@@ -1,6 +1,5 @@
 -- Places in lists in which they rise.
 use Rattle.std.proofs.Common.{◌≡◌, ◌+◌, ◌≤◌, ◌<◌, ◌⊎◌, inl, inr, ℕ, zero, suc, Bool, true, false, cond, ◌||◌, not, List, [], ◌∷◌, length, get_or, drop, Option, Some, None, refl, sym, ap, subst, ◌∙◌, arith, add-one}
-use Rattle.std.specs.Prelude.{◌&&◌}
 use Rattle.std.specs.List.{prefix_len}
 use Rattle.std.specs.List.Sorted.{IsPartitionedBy, IsPartitionPoint, IsStrictlySortedBy}
 use Rattle.std.specs.Str.{bytes_eq}
@@ -16,8 +15,8 @@ use Rattle.ct_base.specs.laws.Orders.{less_from_test}
 use Rattle.ct_entry.specs.Keys.{same_list}
 use Rattle.ct_entry.specs.Listings.{first_of}
 use Rattle.ct_entry.specs.laws.Keys.{list_from_same, list_same}
-use Rattle.cat_walk.specs.Places.{IsFirstAfter, IsNext, comes_before, is_first, is_listed, places_rise}
-use Rattle.cat_walk.proofs.Orders.{before_then, same_place}
+use Rattle.cat_walk.specs.Places.{IsNext, comes_before, is_first, is_listed, places_rise}
+use Rattle.cat_walk.specs.laws.Orders.{before_then, same_place}
 
 -- ---- places that rise are sorted
 

@@ -1,6 +1,5 @@
 -- Look-ups under the stem of a catalogue ask for no text, and hand out none.
-use Rattle.std.proofs.Common.{◌≡◌, ◌≤◌, ◌<◌, ℕ, Bool, true, false, cond, ◌||◌, List, [], ◌∷◌, ◌++◌, Option, Some, None, inl, inr, refl, sym, ap, subst, ◌∙◌, arith}
-use Rattle.std.specs.Prelude.{◌==◌}
+use Rattle.std.proofs.Common.{◌≡◌, ◌<◌, ℕ, Bool, true, false, cond, ◌||◌, List, [], ◌∷◌, ◌++◌, Some, None, inl, inr, refl, ap, subst, ◌∙◌, arith}
 use Rattle.std.specs.Option.{option_map}
 use Rattle.std.specs.declared.cmp.Ordering.TheVariants.{Less}
 use Rattle.std.specs.Ordering.{nat_cmp, is_lt}
@@ -9,11 +8,11 @@ use Rattle.std.proofs.lemmas.Bool.{eqb-true}
 use Rattle.std.proofs.lemmas.Bool.Decides.{nat_tests}
 use Rattle.ct_base.specs.laws.Orders.{less_from_test, less_by_parts, lt_from_less, eq_from_equal}
 use Rattle.ct_keep.specs.Content.{Content, entries_above, first_entry}
-use Rattle.ct_keep.specs.KeeperViews.{Counts, KeeperView, ReadsKeeper, is_kind, is_kind_of, looked_up}
+use Rattle.ct_keep.specs.KeeperViews.{Counts, KeeperView, is_kind, is_kind_of, looked_up}
 use Rattle.ct_keep.specs.Looks.{RisesBy, behind, next_looks, one_if, scan_looks}
 use Rattle.ct_keep.specs.laws.Looks.{behind_kind, rows-scan_looks, texts-scan_looks}
 use Rattle.ct_keep.specs.laws.Rising.{Entry, order, those_above}
-use Rattle.cat_walk.specs.Looks.{IsOfCatalogue, LooksUpNoText, SameTexts}
+use Rattle.cat_walk.specs.Looks.{LooksUpNoText}
 
 -- ---- what a look-up behind a key of a catalogue hands out is of no lower kind
 
@@ -85,16 +84,3 @@ module _ (rest : List ℕ) where
         let rows = scan_rows (bs ++ rest) m in
         record { texts = omega (arith, few.texts, texts); rows = omega (arith, few.rows, rows) };
   }
-
--- ---- one call after another
-
-pub spares_none : (stem : List ℕ) (k : KeeperView) → LooksUpNoText stem k k
-spares_none stem k = record { counts = λ of m told. record { texts = omega arith; rows = omega arith } }
-
-pub spares_on : (stem : List ℕ) (old mid new : KeeperView) → ReadsKeeper old mid None → LooksUpNoText stem old mid → LooksUpNoText stem mid new → LooksUpNoText stem old new
-spares_on stem old mid new reads first second = record {
-  counts = λ of m told.
-      let a = first.counts of m told in
-      let b = second.counts of m (reads.content ∙ told) in
-      record { texts = omega (arith, a.texts, b.texts); rows = omega (arith, a.rows, b.rows) };
-}

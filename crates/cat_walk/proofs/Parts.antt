@@ -3,7 +3,7 @@ use Rattle.std.proofs.Common.{◌≡◌, ℕ, Bool, true, false, ◌&&◌, ◌||
 use Rattle.std.specs.Bool.{if◌then◌else◌}
 use Rattle.cat_walk.specs.Places.{IsFirstAfter, IsNext, comes_before, lesser}
 use Rattle.cat_walk.specs.Walks.{Route, Both, Either, Without, stops_at}
-use Rattle.cat_walk.proofs.Orders.{before_then, same_place}
+use Rattle.cat_walk.specs.laws.Orders.{before_then, same_place}
 use Rattle.cat_walk.proofs.Steps.{HoldsNowhere, ends, stops, passes}
 
 and_no : (s : Bool) → (s && false) ≡ false

@@ -1,7 +1,7 @@
 -- What the steps of a walk pass, and where they end.
 use Rattle.std.proofs.Common.{◌≡◌, ℕ, Bool, true, false, List, None, refl, sym, ap, ◌∙◌}
 use Rattle.cat_walk.specs.Places.{IsFirstAfter, IsNext, comes_before}
-use Rattle.cat_walk.proofs.Orders.{before_then, same_place}
+use Rattle.cat_walk.specs.laws.Orders.{before_then, same_place}
 
 -- The test holds at no place after the first one up to the other, with it.
 pub record HoldsNowhere (holds : List ℕ → Bool) (after last : List ℕ) : Type 0 where

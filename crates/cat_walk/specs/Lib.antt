@@ -1,3 +1,6 @@
+pub mod Gathering
 pub mod Looks
 pub mod Places
+pub mod Scanned
 pub mod Walks
+pub mod laws

@@ -57,6 +57,11 @@ places_rise [] = true
 places_rise (p ∷ []) = true
 places_rise (p ∷ q ∷ ps) = comes_before p q && places_rise (q ∷ ps)
 
+-- THE PLACES AT WHICH A TEST HOLDS, as far as they are known: it holds at each of these, and up to one place at no other.
+pub record ArePlacesUpTo (holds : List ℕ → Bool) (last : List ℕ) (places : List (List ℕ)) : Type 0 where
+  pub from : (place : List ℕ) → is_listed places place ≡ true → holds place ≡ true
+  pub to : (place : List ℕ) → comes_before last place ≡ false → holds place ≡ true → is_listed places place ≡ true
+
 -- computed examples: of two places the one that begins with the lesser byte comes before the other, and one comes before what goes on behind it
 by_their_bytes : comes_before (1 ∷ 9 ∷ []) (2 ∷ []) ≡ true
 by_their_bytes = refl
@@ -78,3 +83,7 @@ the_second_is_listed = refl
 
 and_is_not_the_first : is_first ((1 ∷ []) ∷ (2 ∷ []) ∷ []) (2 ∷ []) ≡ false
 and_is_not_the_first = refl
+
+-- where a test holds nowhere, no place is known
+none_known : (last : List ℕ) → ArePlacesUpTo (λ place. false) last []
+none_known last = record { from = λ place h. h; to = λ place before h. h }

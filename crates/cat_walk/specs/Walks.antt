@@ -36,6 +36,18 @@ has_rising_places (Both a b) = has_rising_places a && has_rising_places b
 has_rising_places (Either a b) = has_rising_places a && has_rising_places b
 has_rising_places (Without a b) = has_rising_places a && has_rising_places b
 
+-- whether it has nothing but words and lists of places, joined by OR: then a step makes one look-up or one search for each, and passes no place
+abbrev pub is_direct : Route → Bool
+is_direct (Word word) = true
+is_direct (Places places) = true
+is_direct (Both a b) = false
+is_direct (Either a b) = is_direct a && is_direct b
+is_direct (Without a b) = false
+
+-- The second walk stops exactly where the first does.
+pub record StopsAlike (has : List ℕ → List ℕ → Bool) (old new : Route) : Type 0 where
+  pub at : (place : List ℕ) → stops_at has new place ≡ stops_at has old place
+
 -- ---- computed examples: at the places 1 and 2 there is `red`, at 2 and 3 `hat`
 
 abbrev red_and_hat : List ℕ → List ℕ → Bool
@@ -65,3 +77,10 @@ not_where_it_is_not = refl
 
 places_of_a_part_rise : has_rising_places (Either (Word (codes "red")) (Places ((5 ∷ []) ∷ (2 ∷ []) ∷ []))) ≡ false
 places_of_a_part_rise = refl
+
+-- of the walks for `box | red hat` and for a list of the places of `red hat` beside `box` the second is direct
+direct_at_2 : is_direct (Either (Word (codes "box")) (Places ((2 ∷ []) ∷ []))) ≡ true
+direct_at_2 = refl
+
+both_are_not_direct : is_direct (Either (Word (codes "box")) (Both (Word (codes "red")) (Word (codes "hat")))) ≡ false
+both_are_not_direct = refl

@@ -1,5 +1,5 @@
 //! Whether a walk stops at a place.
-#![tactic(auto, using(ct_keep::specs::laws::Composing::reads_on, ct_keep::specs::laws::Composing::reads_short, crate::proofs::Looks::spares_on))]
+#![tactic(auto, using(ct_keep::specs::laws::Composing::reads_on, ct_keep::specs::laws::Composing::reads_short, crate::specs::laws::Sparing::spares_on))]
 
 ghost use Rattle.std.specs.Prelude.{◌≡◌, ◌++◌, true, IfOk};
 ghost use Rattle.ct_keep.specs.KeeperViews.{Finds, OnlyReads};

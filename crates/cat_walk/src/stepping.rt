@@ -1,5 +1,5 @@
 //! The next place at which a walk stops.
-#![tactic(auto, using(ct_keep::specs::laws::Composing::reads_on, ct_keep::specs::laws::Composing::reads_short, crate::proofs::Looks::spares_on))]
+#![tactic(auto, using(ct_keep::specs::laws::Composing::reads_on, ct_keep::specs::laws::Composing::reads_short, crate::specs::laws::Sparing::spares_on))]
 
 ghost use Rattle.std.specs.Prelude.{◌≡◌, true};
 ghost use Rattle.ct_keep.specs.KeeperViews.{Finds, OnlyReads};
@@ -120,7 +120,10 @@ fn next_without<K: Keeper>(
 ///
 /// Each step takes a look-up for each word at most, and a binary search in each list of places. Of two walks that both have to stop, each
 /// goes on behind the place at which the other stopped, so the number of steps is near twice that of the places at which the rarer one
-/// stops. It reads no text, and never answers Full.
+/// stops; and where the second mustn't stop, it is that of the places at which the first does. From one call to the next such a walk goes on
+/// where it was, so no step is made twice. Of two walks of which one has to stop, both are asked at each call, and only the lesser place is
+/// taken: one that passes places on its way to the next passes them again at each call, until the other is beyond them. So each of these two
+/// is to be settled (`settled`). It reads no text, and never answers Full.
 #[cycle(next)]
 pub fn next_place<K: Keeper>(
     alloc: Global,

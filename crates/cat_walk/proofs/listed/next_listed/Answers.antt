@@ -1,4 +1,4 @@
-use Rattle.std.proofs.Common.{ℕ, List, Option, ◌≡◌, ◌∙◌, ap, sym, subst}
+use Rattle.std.proofs.Common.{ℕ, List, Option, ◌∙◌, ap, sym, subst}
 use Rattle.std.proofs.lemmas.Result.{IfOk-weaker}
 use Rattle.ct_entry.specs.Listings.{first_of}
 use Rattle.cat_walk.specs.Places.{IsNext, is_listed}

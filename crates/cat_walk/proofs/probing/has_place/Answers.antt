@@ -1,5 +1,6 @@
-use Rattle.std.proofs.Common.{◌≡◌, ◌++◌, ◌∙◌, append_assoc}
-use Rattle.cat_walk.proofs.Looks.{fetch_spares, spares_none}
+use Rattle.std.proofs.Common.{◌++◌, ◌∙◌, append_assoc}
+use Rattle.cat_walk.specs.laws.Sparing.{spares_none}
+use Rattle.cat_walk.proofs.Looks.{fetch_spares}
 use Rattle.cat_walk.proofs.probing.has_place.Goals as goal
 
 pub returns-in_err-key-clause-spares : goal.returns-in_err-key-clause-spares

@@ -4,7 +4,7 @@ use Rattle.cat_walk.specs.Places.{IsNext, has_place, next_of}
 use Rattle.cat_walk.specs.Walks.{Route, Both, Either, Without, route_of, stops_at}
 use Rattle.cat_walk.proofs.Steps.{nowhere_yet, HoldsNowhere}
 use Rattle.cat_walk.proofs.Parts.{first_ends, first_stops, first_passes, second_ends, second_stops, second_passes, without_ends, without_stops, without_passes, lesser_is_next}
-use Rattle.cat_walk.proofs.Looks.{spares_none, spares_on}
+use Rattle.cat_walk.specs.laws.Sparing.{spares_none, spares_on}
 use Rattle.cat_walk.proofs.Arms.{arm_next, both_route, either_route, next_here, test_here, without_route, word_next, word_route}
 use Rattle.cat_walk.proofs.stepping.+next.Goals as goal
 

@@ -5,7 +5,8 @@ use Rattle.std.specs.Option.{option_map}
 use Rattle.ct_keep.specs.Handed.{entry_seen}
 use Rattle.cat_walk.specs.Places.{IsNext, has_place}
 use Rattle.cat_walk.proofs.First.{next_seen}
-use Rattle.cat_walk.proofs.Looks.{next_spares, spares_none}
+use Rattle.cat_walk.specs.laws.Sparing.{spares_none}
+use Rattle.cat_walk.proofs.Looks.{next_spares}
 use Rattle.cat_walk.proofs.stepping.next_of_word.Goals as goal
 
 pub returns-in-Some-clause-next : goal.returns-in-Some-clause-next

@@ -1,0 +1,10 @@
+pub mod Bools
+pub mod RowLists
+pub mod FirstPlaces
+pub mod WordTexts
+pub mod CatalogueEntries
+pub mod Compiled
+pub mod Finding
+pub mod Counting
+pub mod TextSteps
+pub mod WalkSteps

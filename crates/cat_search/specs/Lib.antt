@@ -1,0 +1,9 @@
+pub mod Queries
+pub mod Words
+pub mod Walking
+pub mod Meeting
+pub mod SubIndexes
+pub mod Contents
+pub mod Looking
+pub mod Promises
+pub mod laws
