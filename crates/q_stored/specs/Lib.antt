@@ -1,0 +1,9 @@
+pub mod QueryBytes
+pub mod Storing
+pub mod Writing
+pub mod Reading
+pub mod Building
+pub mod Anchoring
+pub mod AnchorViews
+pub mod Promises
+pub mod laws

@@ -1,0 +1,5 @@
+pub mod Items
+pub mod Apart
+pub mod Prefixes
+pub mod Stored
+pub mod Anchors
