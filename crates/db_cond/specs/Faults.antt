@@ -27,6 +27,8 @@ pub data Refusal : Type 0 where
   NoIndexOfKind : Refusal
   BadValue : Refusal
   LimitReached : Refusal
+  -- of a structured query
+  InNoSubIndex : List ℕ → Refusal
 
 -- no statement of the grammar
 abbrev pub not_understood : List ℕ
@@ -66,6 +68,7 @@ refusal_line OutOfRange = codes "E22: number out of range\n"
 refusal_line NoIndexOfKind = codes "E27: no index of that kind\n"
 refusal_line BadValue = codes "E30: bad attribute or value\n"
 refusal_line LimitReached = codes "E31: limit reached\n"
+refusal_line (InNoSubIndex name) = codes "E33: column " ++ printed_text name ++ codes " in no sub-index\n"
 
 abbrev pub no_rows : List ℕ
 no_rows = codes "no rows selected\n"
@@ -83,6 +86,9 @@ key = refl
 
 field : refusal_line (FieldInside (codes "t")) ≡ codes "E24: field t inside WITHIN\n"
 field = refl
+
+no_sub_index : refusal_line (InNoSubIndex (codes "shop")) ≡ codes "E33: column shop in no sub-index\n"
+no_sub_index = refl
 
 place : refusal_line (NotInProfile 1) ≡ codes "E21: operator not in profile at 1\n"
 unfolding digits

@@ -3,7 +3,7 @@ use Rattle.std.specs.Prelude.{◌≡◌, negsuc, codes, refl}
 use Rattle.std.specs.Fmt.{digits}
 use Rattle.db_cond.specs.declared.faults.Fault.{Fault}
 use Rattle.db_cond.specs.declared.faults.Fault.TheVariants as fault
-use Rattle.db_cond.specs.Faults.{Refusal, UnknownName, ExistsAlready, WrongValues, KeyExists, ValueTooLong, QuerySyntax, NotInProfile, QueryNumber, NotOneWord, UnknownSection, FieldInside, UnknownThesaurus, TooManyTerms, QueryTooLarge, OutOfRange, NoIndexOfKind, BadValue, LimitReached, refusal_line}
+use Rattle.db_cond.specs.Faults.{Refusal, UnknownName, ExistsAlready, WrongValues, KeyExists, ValueTooLong, QuerySyntax, NotInProfile, QueryNumber, NotOneWord, UnknownSection, FieldInside, UnknownThesaurus, TooManyTerms, QueryTooLarge, OutOfRange, NoIndexOfKind, BadValue, LimitReached, InNoSubIndex, refusal_line}
 
 abbrev pub refusal_of : Fault → Refusal
 refusal_of (fault.UnknownName name) = UnknownName name.now
@@ -24,6 +24,7 @@ refusal_of fault.OutOfRange = OutOfRange
 refusal_of fault.NoIndexOfKind = NoIndexOfKind
 refusal_of fault.BadValue = BadValue
 refusal_of fault.LimitReached = LimitReached
+refusal_of (fault.InNoSubIndex name) = InNoSubIndex name.now
 
 -- computed example
 key_of_a_row : refusal_line (refusal_of (fault.KeyExists (negsuc 6))) ≡ codes "E14: key -7 exists\n"

@@ -49,6 +49,8 @@ pub enum Fault<'a> {
     BadValue,
     /// A limit would be passed.
     LimitReached,
+    /// A structured query names this column, which no sub-index of the catalogue has.
+    InNoSubIndex(&'a str),
 }
 
 /// Puts a text.
@@ -119,6 +121,9 @@ fn push_fault(alloc: Global, out: &mut Vec<u8>, fault: Fault<'_>) -> Result<(), 
         Fault::NoIndexOfKind => push_fixed(out, b"E27: no index of that kind\n"),
         Fault::BadValue => push_fixed(out, b"E30: bad attribute or value\n"),
         Fault::LimitReached => push_fixed(out, b"E31: limit reached\n"),
+        Fault::InNoSubIndex(name) => {
+            push_named(out, b"E33: column ", name, b" in no sub-index\n")
+        }
     }
 }
 

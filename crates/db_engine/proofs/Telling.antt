@@ -4,7 +4,7 @@ use Rattle.std.specs.Prelude.{not, codes}
 use Rattle.std.specs.Bool.{if◌then◌else◌}
 use Rattle.std.specs.declared.alloc.Global.{Global}
 use Rattle.ct_keep.specs.KeeperViews.{KeeperView}
-use Rattle.db_cond.specs.Faults.{Refusal, NotUnderstood, UnknownName, ExistsAlready, WrongValues, KeyExists, ValueTooLong, StatementTooLong, QuerySyntax, NotInProfile, QueryNumber, NotOneWord, UnknownSection, FieldInside, UnknownThesaurus, TooManyTerms, QueryTooLarge, OutOfRange, NoIndexOfKind, BadValue, LimitReached, refusal_line, store_full}
+use Rattle.db_cond.specs.Faults.{Refusal, NotUnderstood, UnknownName, ExistsAlready, WrongValues, KeyExists, ValueTooLong, StatementTooLong, QuerySyntax, NotInProfile, QueryNumber, NotOneWord, UnknownSection, FieldInside, UnknownThesaurus, TooManyTerms, QueryTooLarge, OutOfRange, NoIndexOfKind, BadValue, LimitReached, InNoSubIndex, refusal_line, store_full}
 use Rattle.st_parse.specs.declared.procedures.Procedure.TheVariants.{PolicyTokens, SyncIndex, Define, Thesaurus}
 use Rattle.st_parse.specs.declared.statements.Statement.{Statement}
 use Rattle.st_parse.specs.declared.statements.Statement.TheVariants.{CreateTable, DropTable, DropIndex, CreateIndex, Insert, Update, Delete, Select, Exec, Commit}
@@ -50,6 +50,7 @@ not_full OutOfRange is = let e : 50 ≡ 56 = ap second is in omega (arith, e)
 not_full NoIndexOfKind is = let e : 50 ≡ 56 = ap second is in omega (arith, e)
 not_full BadValue is = let e : 51 ≡ 56 = ap second is in omega (arith, e)
 not_full LimitReached is = let e : 51 ≡ 56 = ap second is in omega (arith, e)
+not_full (InNoSubIndex name) is = let e : 51 ≡ 56 = ap second is in omega (arith, e)
 
 -- the last byte but one
 before_last : List ℕ → ℕ

@@ -29,7 +29,7 @@ allowance c m Commit = unbounded
 abbrev pub LooksAsAllowed : Statement → KeeperView → KeeperView → Option KeepFault → Type 0
 LooksAsAllowed s old new fault = LooksOver StandsForState (λ c m. allowance c m s) old new fault
 
--- computed examples: nothing is said of an INSERT, nor of a COUNT(*) without a CONTAINS; and a statement that is refused may look up one row
+-- computed examples: nothing is said of an INSERT, nor of a COUNT(*) without a text predicate; and a statement that is refused may look up one row
 an_insert : (c : Content) (m : StoreState) → allowance c m (Insert (codes "docs") None []) ≡ unbounded
 an_insert c m = refl
 

@@ -1,3 +1,8 @@
+pub mod CatalogueSteps
+pub mod Enough
+pub mod FewRows
+pub mod PlainQueries
+pub mod Refusals
 pub mod Scores
 pub mod Searchable
 pub mod SeekLaws

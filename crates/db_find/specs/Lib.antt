@@ -3,6 +3,9 @@ pub mod Seeking
 pub mod Thesauri
 pub mod Querying
 pub mod Meanings
+pub mod Structured
+pub mod Catalogues
 pub mod Finding
 pub mod Looking
+pub mod Few
 pub mod laws

@@ -1,8 +1,8 @@
 -- How much a search looks at.
-use Rattle.std.specs.Prelude.{ℕ, pos, ◌≡◌, List, Option, Some, None, codes, refl}
+use Rattle.std.specs.Prelude.{ℕ, pos, ◌≡◌, List, [], Option, Some, None, codes, refl}
 use Rattle.std.specs.Option.{option_map}
 use Rattle.std.specs.FinMap.{get}
-use Rattle.std.proofs.Common.{◌∙◌}
+use Rattle.std.proofs.Common.{inl, inr, ◌∙◌}
 use Rattle.std.specs.Str.{chars}
 use lib.Utf8.{encode}
 use Rattle.caseless.proofs.Computing.{caseless}
@@ -11,18 +11,27 @@ use Rattle.tx_chars.specs.Keys.{key_text}
 use Rattle.ct_keep.specs.Content.{Content}
 use Rattle.ct_keep.specs.KeeperViews.{Counts, KeeperView}
 use Rattle.ct_keep.specs.Looks.{no_looks, LooksAtMost}
+use Rattle.tb_table.specs.declared.columns.Column.{Column}
+use Rattle.tb_table.specs.Tables.{Tables}
+use Rattle.ix_kinds.specs.Rows.{table_at}
+use Rattle.ix_kinds.specs.Indextypes.{IndexOf, with_body}
 use Rattle.q_tree.specs.declared.flats.Flat.{Flat}
 use Rattle.q_tree.specs.ReducedQueries.{reduced_of}
 use Rattle.th_store.specs.Thesauri.{Thesauri}
-use Rattle.db_names.specs.declared.heads.IndexKind.{IndexKind}
-use Rattle.ix_indexes.specs.Indexes.{Index, kinds, as_index}
+use Rattle.cat_index.specs.declared.catalogues.Catalogue.{Catalogue}
+use Rattle.cat_index.specs.Catalogues.{CatalogueBody, docs_catalogue}
+use Rattle.cat_search.specs.Contents.{IsIndexOf}
+use Rattle.cat_search.specs.Looking.{ReadsTexts}
+use Rattle.ix_indexes.specs.Indexes.{Body, Index, as_catalogue, as_index}
 use Rattle.ix_search.specs.Finding.{key_query, three_rows}
 use Rattle.ix_search.specs.Looking.{foxes, query_allowance, query_looks, query_of_fox}
 use Rattle.st_parse.specs.declared.statements.Whole.{Whole}
 use Rattle.st_parse.specs.declared.statements.Whole.TheVariants.{Fits}
 use Rattle.db_state.specs.States.{StoreState, StandsForState}
 use Rattle.db_find.specs.Querying.{Meaning, Finds, meaning_of}
-use Rattle.db_find.specs.Searches.{Search, Contains, threshold_of}
+use Rattle.db_find.specs.Searches.{Search, Catsearch, Contains, threshold_of}
+use Rattle.db_find.specs.Catalogues.{catalogue_texts, texts_meant}
+use Rattle.db_find.specs.Finding.{Answers}
 
 -- what a query text means is looked for in the index of this name, with a score above a number; nothing without a query or a number
 abbrev pub meaning_looks : Content → List ℕ → Meaning → Option ℕ → Counts
@@ -36,19 +45,59 @@ flat_looks c i flat threshold = meaning_looks c i (Finds (option_map reduced_of 
 abbrev pub text_looks : Content → Thesauri → List ℕ → Index → List ℕ → Whole → Counts
 text_looks c thesauri i x query above = meaning_looks c i (meaning_of x.prefs thesauri query) (threshold_of above)
 
--- WHAT A SEARCH LOOKS AT in the index of this name, where these thesauri are there
-abbrev pub search_looks : Content → Thesauri → List ℕ → Index → Search → Counts
-search_looks c thesauri i x (Contains column query label above) = text_looks c thesauri i x query above
+-- HOW MANY TEXTS A SEARCH READS at most to find its rows, by what its index is: CONTAINS none
+abbrev pub texts_of_kind : Tables → Index → Body → Search → ℕ
+texts_of_kind ts x body (Contains column query label above) = 0
+texts_of_kind ts x (inl c) (Catsearch column query structured) = 0
+texts_of_kind ts x (inr b) (Catsearch column query structured) = catalogue_texts ts (with_body x b) query structured
+
+abbrev pub search_texts : Tables → Index → Search → ℕ
+search_texts ts x s = texts_of_kind ts x x.body s
+
+-- in the index that it needs, with its name; none where there is none
+abbrev pub texts_in_index : Tables → Option (List ℕ × Index) → Search → ℕ
+texts_in_index ts named (Contains column query label above) = 0
+texts_in_index ts None (Catsearch column query structured) = 0
+texts_in_index ts (Some named) (Catsearch column query structured) = search_texts ts named.1 (Catsearch column query structured)
+
+-- WHAT A SEARCH LOOKS AT in the index of this name, where these tables and thesauri are there
+abbrev pub search_looks : Content → Tables → Thesauri → List ℕ → Index → Search → Counts
+search_looks c ts thesauri i x (Contains column query label above) = text_looks c thesauri i x query above
+search_looks c ts thesauri i x (Catsearch column query structured) = record no_looks { texts = search_texts ts x (Catsearch column query structured) }
 
 -- in the index that it needs, with its name; nothing where there is none
-abbrev pub looks_in : Content → Thesauri → Option (List ℕ × Index) → Search → Counts
-looks_in c thesauri None s = no_looks
-looks_in c thesauri (Some named) s = search_looks c thesauri named.0 named.1 s
+abbrev pub looks_in : Content → Tables → Thesauri → Option (List ℕ × Index) → Search → Counts
+looks_in c ts thesauri None s = no_looks
+looks_in c ts thesauri (Some named) s = search_looks c ts thesauri named.0 named.1 s
 
--- A call looked at no more than this, of the index of this name, where that is of this kind.
-abbrev pub LooksInIndex : {K : Type 0} → (K → KeeperView) → K → K → List ℕ → IndexKind → (Content → StoreState → Index → Counts) → Type 0
-LooksInIndex view old new i kind most =
-    (m : StoreState) (c : Content) (x : Index) → (view old).content ≡ Some c → StandsForState c m → get m.indexes i ≡ Some x → kinds.kind x.body ≡ kind → LooksAtMost view old new (most c m x)
+-- Of CATSEARCH nothing is said of the rules that were handed out: rules stand behind the entries of catalogues, so that a look-up behind the last one of all
+-- hands out the first rule. `new` is what had been looked up when the search was done.
+abbrev pub leaving_rules : Search → Counts → Counts → Counts
+leaving_rules (Contains column query label above) new most = most
+leaving_rules (Catsearch column query structured) new most = record most { rules = new.rules }
+
+-- A CALL LOOKED AT NO MORE THAN A SEARCH DOES in the index of this name, where that answers it on a table with these columns.
+abbrev pub LooksInIndex : {K : Type 0} → (K → KeeperView) → K → K → List ℕ → List Column → Search → Type 0
+LooksInIndex view old new i columns s =
+    (m : StoreState) (c : Content) (x : Index) → (view old).content ≡ Some c → StandsForState c m → get m.indexes i ≡ Some x → Answers m.tables x columns s
+    → LooksAtMost view old new (leaving_rules s (view new).counts (search_looks c m.tables m.thesauri i x s))
+
+-- ---- of catalogues
+
+-- This holds of the catalogue of this name, where there is one.
+abbrev pub OverCatalogue : {K : Type 0} → (K → KeeperView) → K → List ℕ → (StoreState → IndexOf CatalogueBody → Type 0) → Type 0
+OverCatalogue view old i holds = (m : StoreState) (c : Content) (x : IndexOf CatalogueBody) → (view old).content ≡ Some c → StandsForState c m → get m.indexes i ≡ Some (as_catalogue x) → holds m x
+
+-- the same where it is this one as code holds it, with the columns of its sub-indexes
+abbrev pub OverCatalogueOf : {K : Type 0} → (K → KeeperView) → K → List ℕ → Catalogue → (StoreState → IndexOf CatalogueBody → Type 0) → Type 0
+OverCatalogueOf view old i catalogue holds = OverCatalogue view old i (λ m x. IsIndexOf catalogue x → x.body.names ≡ catalogue.subs → holds m x)
+
+-- no more texts were read than a query needs, and than a query text and a structured query do
+abbrev pub ReadsMeant : Tables → IndexOf CatalogueBody → Option Flat → Counts → Counts → Type 0
+ReadsMeant ts x flat old new = ReadsTexts (texts_meant (table_at ts x.table) x (Finds (option_map reduced_of flat))) old new
+
+abbrev pub ReadsWords : Tables → IndexOf CatalogueBody → List ℕ → List ℕ → Counts → Counts → Type 0
+ReadsWords ts x query structured old new = ReadsTexts (catalogue_texts ts x query structured) old new
 
 -- ---- by rows
 
@@ -57,9 +106,10 @@ abbrev pub meaning_allowance : Content → List ℕ → Meaning → Option ℕ �
 meaning_allowance c i (Finds (Some q)) (Some n) = query_allowance c i q
 meaning_allowance c i meaning threshold = 0
 
--- HOW MANY ROWS A SEARCH MAY LOOK UP in the index of this name, where these thesauri are there
+-- HOW MANY ROWS OF POSTINGS A SEARCH MAY LOOK UP in the index of this name, where these thesauri are there
 abbrev pub search_allowance : Content → Thesauri → List ℕ → Index → Search → ℕ
 search_allowance c thesauri i x (Contains column query label above) = meaning_allowance c i (meaning_of x.prefs thesauri query) (threshold_of above)
+search_allowance c thesauri i x (Catsearch column query structured) = 0
 
 -- in the index that it needs, with its name; none where there is none
 abbrev pub allowance_in : Content → Thesauri → Option (List ℕ × Index) → Search → ℕ
@@ -70,6 +120,10 @@ allowance_in c thesauri (Some named) s = search_allowance c thesauri named.0 nam
 
 of_no_query : (c : Content) → meaning_looks c (codes "di") (Finds None) (Some 0) ≡ no_looks
 of_no_query c = refl
+
+no_text_where_it_is_refused : (ts : Tables) → search_texts ts (as_catalogue docs_catalogue) (Catsearch (codes "body") [] []) ≡ 0
+unfolding encode chars caseless ucd_category key_text
+no_text_where_it_is_refused ts = refl
 
 -- the query text `fox` means the key `fox`, which has three rows in the second content
 rows_of_a_word : (c : Content) (thesauri : Thesauri) → search_allowance c thesauri (codes "di") (as_index three_rows) (Contains (codes "body") (codes "fox") None (Fits (pos 0))) ≡ query_allowance c (codes "di") (key_query (codes "fox"))

@@ -6,40 +6,52 @@ use Rattle.st_parse.specs.declared.statements.Operand.TheVariants.{Number}
 use Rattle.st_parse.specs.declared.statements.Compare.TheVariants.{Less}
 use Rattle.st_parse.specs.declared.statements.Cond.TheVariants.{Compare}
 use Rattle.st_parse.specs.declared.statements.Pred.{Pred}
-use Rattle.st_parse.specs.declared.statements.Pred.TheVariants.{Cond as CondPred, Contains as ContainsPred, Catsearch, Matches}
+use Rattle.st_parse.specs.declared.statements.Pred.TheVariants.{Cond as CondPred, Contains as ContainsPred, Catsearch as CatsearchPred, Matches}
 use Rattle.st_parse.specs.declared.statements.Whole.{Whole}
 use Rattle.st_parse.specs.declared.statements.Whole.TheVariants.{Fits, Beyond}
 use Rattle.db_names.specs.declared.heads.IndexKind.{IndexKind}
-use Rattle.db_names.specs.declared.heads.IndexKind.TheVariants.{Context}
+use Rattle.db_names.specs.declared.heads.IndexKind.TheVariants.{Catalogue, Context}
 use Rattle.db_state.specs.Effects.{is_beyond}
 use Rattle.db_find.specs.declared.searches.Search.{Search as Held}
-use Rattle.db_find.specs.declared.searches.Search.TheVariants.{Contains as HeldContains}
+use Rattle.db_find.specs.declared.searches.Search.TheVariants.{Catsearch as HeldCatsearch, Contains as HeldContains}
 
--- What a text predicate asks, by its kind. CATSEARCH and MATCHES will be kinds of their own.
+-- What a text predicate asks, by its kind. MATCHES will be a kind of its own.
 pub data Search : Type 0 where
   -- of CONTAINS, its column, its query text, its label, and the number that the score is above; SCORE with the label is that score
   Contains : List ℕ → List ℕ → Option Whole → Whole → Search
+  -- of CATSEARCH, its column, its query text, and its structured query, which is the empty text where NULL stands there
+  Catsearch : List ℕ → List ℕ → List ℕ → Search
 
 -- ---- what each kind has
 
 -- the column that the predicate is on
 abbrev pub search_column : Search → List ℕ
 search_column (Contains column query label above) = column
+search_column (Catsearch column query structured) = column
 
 -- the kind of the index that answers it
 abbrev pub search_kind : Search → IndexKind
 search_kind (Contains column query label above) = Context
+search_kind (Catsearch column query structured) = Catalogue
 
 -- the label by which SCORE asks for its score, if it has one
 abbrev pub search_label : Search → Option Whole
 search_label (Contains column query label above) = label
+search_label (Catsearch column query structured) = None
 
--- of a CONTAINS its query text, and the number that the score is above
+-- its query text, and the number that the score is above; of CATSEARCH that is 0
 abbrev pub search_query : Search → List ℕ
 search_query (Contains column query label above) = query
+search_query (Catsearch column query structured) = query
 
 abbrev pub search_above : Search → Whole
 search_above (Contains column query label above) = above
+search_above (Catsearch column query structured) = Fits (pos 0)
+
+-- its structured query; of CONTAINS that is the empty text
+abbrev pub search_structured : Search → List ℕ
+search_structured (Contains column query label above) = []
+search_structured (Catsearch column query structured) = structured
 
 abbrev pub is_beyond_label : Option Whole → Bool
 is_beyond_label None = false
@@ -54,14 +66,20 @@ threshold_of Beyond = None
 -- one of its numbers is out of range
 abbrev pub has_number_out_of_range : Search → Bool
 has_number_out_of_range (Contains column query label above) = is_beyond_label label || is_none (threshold_of above)
+has_number_out_of_range (Catsearch column query structured) = false
 
 -- ---- among predicates
+
+-- NULL asks for what the empty text does
+abbrev pub text_or_empty : Option (List ℕ) → List ℕ
+text_or_empty None = []
+text_or_empty (Some text) = text
 
 -- what a predicate asks, if it is a text predicate of a kind that is built
 abbrev pub search_of : Pred → Option Search
 search_of (CondPred cond) = None
 search_of (ContainsPred column query label above) = Some (Contains column query label above)
-search_of (Catsearch column query structured) = None
+search_of (CatsearchPred column query structured) = Some (Catsearch column query (text_or_empty structured))
 search_of (Matches column document) = None
 
 -- what the first of them asks; the grammar lets there be at most one
@@ -73,6 +91,7 @@ search_in (pred ∷ preds) = option_or (search_of pred) (search_in preds)
 
 abbrev pub held_search : Held → Search
 held_search (HeldContains column query label above) = Contains column.now query.now label above
+held_search (HeldCatsearch column query structured) = Catsearch column.now query.now structured.now
 
 -- what a statement searches for, if it searches
 abbrev pub sought : Option Held → Option Search
@@ -94,6 +113,9 @@ its_condition = CondPred (Compare (codes "id") Less (Number (Fits (pos 7))))
 
 its_search : search_in (its_condition ∷ ContainsPred (codes "body") (codes "fox") None (Fits (pos 0)) ∷ []) ≡ Some (Contains (codes "body") (codes "fox") None (Fits (pos 0)))
 its_search = refl
+
+its_catsearch : search_in (CatsearchPred (codes "title") (codes "fox") None ∷ its_condition ∷ []) ≡ Some (Catsearch (codes "title") (codes "fox") [])
+its_catsearch = refl
 
 no_search : search_in (its_condition ∷ []) ≡ None
 no_search = refl

@@ -1,3 +1,4 @@
+pub mod Catalogues
 pub mod Filtering
 pub mod Looking
 pub mod Seeking

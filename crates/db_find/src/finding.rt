@@ -10,30 +10,33 @@ ghost use Rattle.std.specs.FinMap.{get};
 ghost use Rattle.ct_keep.specs.Content.{Content};
 ghost use Rattle.ix_kinds.specs.Indextypes.{IndexOf};
 ghost use Rattle.ix_context.specs.Indexes.{ContextIndex};
-ghost use Rattle.ix_indexes.specs.Indexes.{as_index, kinds};
+ghost use Rattle.ix_indexes.specs.Indexes.{as_index};
 ghost use Rattle.db_state.specs.States.{OverContext, OverIndex, StandsForState, StoreState};
-ghost use Rattle.db_find.specs.Finding.{FindsAbove, FindsBy, FindsByMeaning, FindsBySearch};
-ghost use Rattle.db_find.specs.Looking.{LooksInIndex, flat_looks, search_looks, text_looks};
+ghost use Rattle.db_find.specs.Finding.{Answers, FindsAbove, FindsBy, FindsByMeaning, FindsBySearch};
+ghost use Rattle.db_find.specs.Looking.{LooksInIndex, flat_looks, text_looks};
 ghost use Rattle.db_find.specs.Meanings.{CanSearch, CanSearchIt};
 ghost use Rattle.db_find.specs.Querying.{meaning_of};
-ghost use Rattle.db_find.specs.Searches.{held_search, search_kind, threshold_of as threshold_in};
+ghost use Rattle.db_find.specs.Searches.{held_search, threshold_of as threshold_in};
 
+use crate::catalogues::{ask_nothing, find_in_catalogue};
 use crate::querying::{Meaning, meaning_in};
 use crate::searches::{Search, threshold_of};
+use cat_where::Where;
 use ct_base::Name;
 use ct_keep::{KeepFault, Keeper};
 use ix_search::{Hit, search as search_index};
 use q_tree::Flat;
 use st_parse::Whole;
 use std::alloc::Global;
+use tb_table::Column;
 
 /// What a search finds.
 #[derive(Drop)]
 pub enum Found {
     /// No rows, since what it asks is refused, with this line.
     Refused(Vec<u8>),
-    /// Rows with their scores, in order of their keys.
-    Rows(Vec<Hit>),
+    /// Rows with their scores, in order of their keys, and what else the search asks of them.
+    Rows(Vec<Hit>, Where),
 }
 
 /// Keeps the rows with a score above a number.
@@ -86,7 +89,7 @@ fn found_hits<K: Keeper>(
 }
 
 /// What a CONTAINS finds in an index: the rows in which the score of a query text is above a number.
-fn contained<K: Keeper>(
+fn find_in_context<K: Keeper>(
     alloc: Global,
     keeper: &mut K,
     index: &Name,
@@ -104,27 +107,46 @@ fn contained<K: Keeper>(
         Meaning::Finds(flat) => {
             let above = threshold_of(above);
             let hits = found_hits(alloc, keeper, index, &flat, above)?;
-            Ok(Found::Rows(hits))
+            Ok(Found::Rows(hits, ask_nothing(alloc)))
         }
     }
 }
 
-/// What a search finds in an index, which is of the kind that answers it: the line of a refusal of its text, or rows.
+/// What a search finds in an index, which is of the kind that answers it and on a table with these columns: the line of a refusal of its texts, or rows with what
+/// else the search asks of them.
 ///
 /// Of a CONTAINS it costs the reading of the query text, of the index's preferences and of the thesauri that the text names, and then the
-/// search of the postings. It reads no text of a row.
+/// search of the postings. It reads no text of a row. Of a CATSEARCH it costs the reading of both texts and of the catalogue's entry, and the walk through the
+/// catalogue's entries; it reads texts only for phrases of several words.
 pub fn find<K: Keeper>(
     alloc: Global,
     keeper: &mut K,
     index: &Name,
+    columns: &[Column],
     search: Search<'_>,
 ) -> Result<Found, KeepFault>
     requires { (K.view keeper.old).ready }
-    ensures found { OverIndex K.view keeper.old index.now (λ m x. kinds.kind x.body ≡ search_kind (held_search search.entry) → FindsBySearch m.tables m.thesauri x (held_search search.entry) result) }
+    ensures found { OverIndex K.view keeper.old index.now (λ m x. Answers m.tables x columns.now (held_search search.entry) → FindsBySearch m.tables m.thesauri x (held_search search.entry) result) }
     ensures reads { OnlyReads K.view keeper.old keeper.new result }
-    ensures at_most { LooksInIndex K.view keeper.old keeper.new index.now (search_kind (held_search search.entry)) (λ c m x. search_looks c m.thesauri index.now x (held_search search.entry)) }
+    ensures at_most { LooksInIndex K.view keeper.old keeper.new index.now columns.now (held_search search.entry) }
 {
     match search {
-        Search::Contains { .. } => contained(alloc, keeper, index, search.query(), search.above()),
+        Search::Contains { .. } => find_in_context(
+            alloc,
+            keeper,
+            index,
+            search.query(),
+            search.above(),
+        ),
+        Search::Catsearch { .. } => {
+            find_in_catalogue(
+                alloc,
+                keeper,
+                index,
+                columns,
+                search.query(),
+                search.structured(),
+            )
+        }
     }
 }

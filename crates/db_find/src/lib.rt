@@ -1,12 +1,17 @@
 //! What a text predicate finds: rows by their keys, each with its score.
 #![tactic(auto)]
 
+mod catalogues;
 mod finding;
+mod laws;
 mod querying;
 mod searches;
 mod seeking;
+mod structured;
 mod thesauri;
+mod words;
 
 pub use finding::{Found, find};
+pub use laws::catalogues_find_few;
 pub use searches::{Search, search_in};
 pub use seeking::needed_index;

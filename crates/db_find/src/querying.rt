@@ -34,7 +34,7 @@ pub(crate) enum Meaning {
 }
 
 /// The meaning of a text that is refused.
-fn refused(alloc: Global, fault: Fault<'_>) -> Result<Meaning, Memory>
+pub(crate) fn refused(alloc: Global, fault: Fault<'_>) -> Result<Meaning, Memory>
     ensures meaning { IfOk result (λ meaning. Means meaning (Refuses (refusal_of fault.entry))) }
     ensures searchable { IfOk result (λ meaning. IsSearchable meaning) }
 {
@@ -42,7 +42,7 @@ fn refused(alloc: Global, fault: Fault<'_>) -> Result<Meaning, Memory>
 }
 
 /// The meaning of a query that was read, by these thesauri.
-fn meaning_by(
+pub(crate) fn meaning_by(
     alloc: Global,
     prefs: &Prefs,
     thesauri: &[NamedThesaurus],

@@ -3,16 +3,16 @@
 
 ghost use Rattle.std.specs.Prelude.{◌≡◌};
 ghost use Rattle.std.specs.Option.{option_map};
-ghost use Rattle.db_find.specs.Searches.{has_number_out_of_range as search_out_of_range, held_search, is_beyond_label, search_above, search_column, search_in as first_search, search_kind, search_label, search_of as search_of_pred, search_query, threshold_of};
+ghost use Rattle.db_find.specs.Searches.{has_number_out_of_range as search_out_of_range, held_search, is_beyond_label, search_above, search_column, search_in as first_search, search_kind, search_label, search_of as search_of_pred, search_query, search_structured, text_or_empty as text_or_nothing, threshold_of};
 
-use ct_base::Name;
+use ct_base::{Name, Text};
 use db_names::IndexKind;
 use st_parse::{Pred, Whole};
 
 /// The highest score.
 const HIGHEST: i64 = 100;
 
-/// What a text predicate asks, by its kind. CATSEARCH and MATCHES will be kinds of their own.
+/// What a text predicate asks, by its kind. MATCHES will be a kind of its own.
 #[derive(Clone, Copy)]
 pub enum Search<'a> {
     /// The score of the query text in the column is above a number. SCORE with the label is that score.
@@ -21,6 +21,12 @@ pub enum Search<'a> {
         query: &'a str,
         label: Option<Whole>,
         above: Whole,
+    },
+    /// The text in the column meets the query text, and the row the conditions of the structured query, which orders the rows too. NULL is the empty text.
+    Catsearch {
+        column: &'a Name,
+        query: &'a str,
+        structured: &'a str,
     },
 }
 
@@ -31,6 +37,7 @@ impl<'a> Search<'a> {
     {
         match self {
             Search::Contains { column, .. } => column,
+            Search::Catsearch { column, .. } => column,
         }
     }
 
@@ -40,6 +47,7 @@ impl<'a> Search<'a> {
     {
         match self {
             Search::Contains { .. } => IndexKind::Context,
+            Search::Catsearch { .. } => IndexKind::Catalogue,
         }
     }
 
@@ -49,24 +57,37 @@ impl<'a> Search<'a> {
     {
         match self {
             Search::Contains { label, .. } => label,
+            Search::Catsearch { .. } => None,
         }
     }
 
-    /// The query text of a CONTAINS.
+    /// Its query text.
     pub(crate) fn query(self) -> &'a str
         ensures { result.now ≡ search_query (held_search self.entry) }
     {
         match self {
             Search::Contains { query, .. } => query,
+            Search::Catsearch { query, .. } => query,
         }
     }
 
-    /// The number that the score of a CONTAINS is above.
+    /// The number that the score is above. Of CATSEARCH that is 0.
     pub(crate) fn above(self) -> Whole
         ensures { result ≡ search_above (held_search self.entry) }
     {
         match self {
             Search::Contains { above, .. } => above,
+            Search::Catsearch { .. } => Whole::Fits(0),
+        }
+    }
+
+    /// Its structured query. Of CONTAINS that is the empty text.
+    pub(crate) fn structured(self) -> &'a str
+        ensures { result.now ≡ search_structured (held_search self.entry) }
+    {
+        match self {
+            Search::Contains { .. } => "",
+            Search::Catsearch { structured, .. } => structured,
         }
     }
 
@@ -78,6 +99,7 @@ impl<'a> Search<'a> {
             Search::Contains { label, above, .. } => {
                 is_beyond_label(label) || threshold_of(above).is_none()
             }
+            Search::Catsearch { .. } => false,
         }
     }
 }
@@ -108,6 +130,16 @@ pub(crate) fn threshold_of(above: Whole) -> Option<u32>
     }
 }
 
+/// A text, or the empty one.
+fn text_or_empty(text: &Option<Text>) -> &str
+    ensures { result.now ≡ text_or_nothing text.now }
+{
+    match text {
+        Some(text) => text.as_str(),
+        None => "",
+    }
+}
+
 /// What a predicate asks, if it is a text predicate of a kind that is built.
 fn search_of<'a>(pred: &'a Pred) -> Option<Search<'a>>
     ensures { option_map held_search result ≡ search_of_pred pred.now }
@@ -124,7 +156,16 @@ fn search_of<'a>(pred: &'a Pred) -> Option<Search<'a>>
             label: *label,
             above: *above,
         }),
-        Pred::Cond(_) | Pred::Catsearch { .. } | Pred::Matches { .. } => None,
+        Pred::Catsearch {
+            column,
+            query,
+            structured,
+        } => Some(Search::Catsearch {
+            column,
+            query: query.as_str(),
+            structured: text_or_empty(structured),
+        }),
+        Pred::Cond(_) | Pred::Matches { .. } => None,
     }
 }
 

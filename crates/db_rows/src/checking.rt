@@ -14,7 +14,7 @@ use st_parse::{Cond, Operand, Whole};
 use tb_table::{Column, Sort};
 
 /// The column that a condition is on.
-pub(crate) fn cond_column(cond: &Cond) -> &Name
+pub fn cond_column(cond: &Cond) -> &Name
     ensures { result.now ≡ column_of_cond cond.now }
 {
     match cond {
@@ -97,7 +97,7 @@ fn fits_each(sort: Option<Sort>, operands: &[Operand]) -> bool
 }
 
 /// Whether the column of the condition is there, and its values are compared with such operands.
-fn fits_cond(cond: &Cond, columns: &[Column]) -> bool
+pub fn fits_cond(cond: &Cond, columns: &[Column]) -> bool
     ensures { result ≡ cond_fits columns.now cond.now }
 {
     let sort = sort_of(cond_column(cond), columns);

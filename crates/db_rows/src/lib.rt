@@ -8,7 +8,9 @@ mod reading;
 mod sources;
 mod walking;
 
-pub use checking::{conds_fault, fit_columns, has_beyond, sort_of, unknown_column};
+pub use checking::{
+    cond_column, conds_fault, fit_columns, fits_cond, has_beyond, sort_of, unknown_column,
+};
 pub use meeting::read_if_met;
 pub use reading::{RowRead, Shown, column_value, row_numbers};
 pub use sources::{Source, source_of};

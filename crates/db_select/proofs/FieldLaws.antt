@@ -10,11 +10,12 @@ use Rattle.tb_table.specs.Rules.{AreTables}
 use Rattle.db_rows.specs.Values.{row_values}
 use Rattle.db_rows.specs.laws.Sources.{column_from}
 use Rattle.db_select.specs.Fields.{field_value, line_fields, hit_fields}
-use Rattle.db_select.specs.Listing.{field, hit_line}
+use Rattle.db_select.specs.Listing.{hit_line}
+use Rattle.db_select.specs.Ordering.{field}
 use Rattle.db_select.specs.Sources.{field_source}
 
 module _ (ts : Tables) (t : List ℕ) (x : Table) (are : AreTables ts) (here : get ts t ≡ Some x) (r : ℤ) (score : ℕ) where
-  field_is : (item : Item) → field_value r (row_values ts t r) score (field_source x.columns item) ≡ field x.columns r (row_values ts t r) score item
+  pub field_is : (item : Item) → field_value r (row_values ts t r) score (field_source x.columns item) ≡ field x.columns r (row_values ts t r) score item
   field_is (ColumnItem name) = sym (column_from ts t x are here r name)
   field_is (ScoreItem label) = refl
 

@@ -1,5 +1,5 @@
 -- The rows that meet conditions, among those that were found.
-use Rattle.std.proofs.Common.{◌≡◌, ◌<◌, ◌≤◌, ◌+◌, ◌*◌, ℕ, suc, ℤ, Bool, List, [], ◌∷◌, ◌++◌, length, map, get_or, take, drop, Option, Some, None, refl, sym, ap, subst, ◌∙◌, add-one, arith}
+use Rattle.std.proofs.Common.{◌≡◌, ◌<◌, ◌≤◌, ◌+◌, ◌*◌, ℕ, suc, ℤ, Bool, List, [], ◌∷◌, ◌++◌, length, map, get_or, take, drop, Option, None, refl, sym, ap, subst, ◌∙◌, add-one, arith}
 use Rattle.std.specs.Prelude.{filter}
 use Rattle.std.specs.Bool.{if◌then◌else◌}
 use Rattle.std.specs.List.{AllByRecursion}
@@ -19,17 +19,13 @@ use Rattle.ct_keep.specs.KeeperViews.{Counts}
 use Rattle.tb_table.specs.Tables.{Table, Tables}
 use Rattle.ix_search.specs.declared.hits.Hit.{Hit}
 use Rattle.ix_search.specs.Hits.{hit_rows}
-use Rattle.ix_indexes.specs.Indexes.{Index}
 use Rattle.db_state.specs.States.{StoreState}
 use Rattle.db_rows.specs.Values.{values_behind_key}
 use Rattle.db_rows.specs.Meeting.{row_meets, key_meets, meeting_keys}
-use Rattle.db_rows.specs.Texts.{RisesLeaving, texts_alone, texts_left}
+use Rattle.db_rows.specs.Texts.{HasFewerLeft, RisesLeaving, texts_alone, texts_left}
 use Rattle.db_rows.specs.Walking.{AreOwn, met_keys}
 use Rattle.db_rows.specs.declared.walking.MetRow.{MetRow}
 use Rattle.db_rows.specs.laws.Texts.{leaves_still}
-use Rattle.db_find.specs.Searches.{Search}
-use Rattle.db_find.specs.Seeking.{index_of_search}
-use Rattle.db_find.specs.Finding.{found_in, search_rows}
 use Rattle.db_find.specs.laws.Filtering.{filter_mapped}
 use Rattle.db_select.specs.declared.finds.FoundRow.{FoundRow}
 use Rattle.db_select.specs.Hits.{HoldOwn, hits, hits_of, rows_left, unscored}
@@ -59,10 +55,6 @@ module _ (p : Hit → Bool) (found : List Hit) where
   all_met i hits are past = are.are ∙ ap (filter p) (take_all i found past)
 
 -- ---- with a search
-
-pub searched_are : (m : StoreState) (t : List ℕ) (x : Table) (s : Search) (conds : List Cond) (y : Index) → index_of_search m t x.columns s ≡ Some y
-    → filter (λ h. key_meets x conds h.0) (search_rows m.tables m.thesauri y s) ≡ hits m t x (Some s) conds
-searched_are m t x s conds y needed = sym (ap (λ (i : Option Index). filter (λ (h : ℤ × ℕ). key_meets x conds h.0) (found_in m.tables m.thesauri i s)) needed)
 
 pub met_are : (x : Table) (conds : List Cond) (all met : List Hit) (found : List (ℤ × ℕ)) → hit_rows all ≡ found → met ≡ filter (λ h. key_meets x conds h.key.0) all
     → hit_rows met ≡ filter (λ h. key_meets x conds h.0) found
@@ -112,6 +104,16 @@ unsearched_own ts t rows all is own = subst (HoldOwn ts t) (sym is) (unscored_ow
 -- of the first row, and of the others
 pub first_left : (places : List ℕ) (left rest : List FoundRow) (row : FoundRow) → left ≡ row ∷ rest → rows_left places left ≡ texts_left places row.read + rows_left places rest
 first_left places left rest row is = ap (rows_left places) is ∙ sum_by-cons (λ (row : FoundRow). texts_left places row.read) row rest
+
+-- of fewer columns
+pub fewer_left : (some all : List ℕ) → HasFewerLeft some all → (rows : List FoundRow) → rows_left some rows ≤ rows_left all rows
+fewer_left some all fewer [] = omega arith
+fewer_left some all fewer (row ∷ rows) =
+    let least = sum_by-cons (λ (row : FoundRow). texts_left some row.read) row rows in
+    let most = sum_by-cons (λ (row : FoundRow). texts_left all row.read) row rows in
+    let first : texts_left some row.read ≤ texts_left all row.read = fewer row.read in
+    let others = fewer_left some all fewer rows in
+    omega (arith, least, most, first, others)
 
 pub last_left : (places : List ℕ) (rows more : List FoundRow) (row : FoundRow) → more ≡ rows ++ row ∷ [] → rows_left places more ≡ rows_left places rows + texts_left places row.read
 last_left places rows more row is =

@@ -1,9 +1,13 @@
+pub mod AskedLaws
+pub mod FewTexts
 pub mod FieldLaws
 pub mod FieldSteps
 pub mod HitSteps
 pub mod KnownSearches
 pub mod LineSteps
 pub mod NameOrder
+pub mod OrderLaws
+pub mod OrderSteps
 pub mod PredicateLaws
 pub mod SearchLooks
 pub mod SelectLaws

@@ -110,8 +110,8 @@ needs_none m t x s none = ap is_none none
 -- ---- the query of a search
 
 module _ (m : StoreState) (t : List ℕ) (x : Table) (s : Search) (y : Index) (needed : index_of_search m t x.columns s ≡ Some y) where
-  pub by_index : query_refusal m t x.columns (Some s) ≡ search_refusal m.thesauri y s
-  by_index = ap (λ (o : Option Index). refused_by m.thesauri o s) needed
+  pub by_index : query_refusal m t x.columns (Some s) ≡ search_refusal m.tables m.thesauri y s
+  by_index = ap (λ (o : Option Index). refused_by m.tables m.thesauri o s) needed
 
 -- ---- what was found, and the reply to it
 

@@ -29,7 +29,7 @@ same_label (Fits m) Beyond = false
 same_label Beyond (Fits n) = false
 same_label Beyond Beyond = true
 
--- SCORE asks for the score of the CONTAINS with its label
+-- SCORE asks for the score of the CONTAINS with its label; a CATSEARCH has none
 abbrev pub is_label_of : Option Whole → Whole → Bool
 is_label_of None label = false
 is_label_of (Some own) label = same_label own label

@@ -1,9 +1,12 @@
 pub mod Checking
 pub mod Fields
 pub mod Giving
+pub mod Ordering
 pub mod Hits
+pub mod Ranking
 pub mod Listing
 pub mod Looking
+pub mod Few
 pub mod Pending
 pub mod Predicates
 pub mod Selecting

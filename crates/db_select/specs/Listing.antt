@@ -1,5 +1,5 @@
 -- The lines of the rows that a SELECT finds.
-use Rattle.std.specs.Prelude.{ℕ, ℤ, pos, List, [], ◌∷◌, length, map, Option, Some, codes, ◌≡◌, refl}
+use Rattle.std.specs.Prelude.{ℕ, ℤ, pos, List, [], ◌∷◌, length, map, Option, codes, ◌≡◌, refl}
 use Rattle.std.specs.List.{filter_map}
 use Rattle.std.specs.Fmt.{digits}
 use Rattle.ct_base.specs.declared.lists.Value.{Value}
@@ -14,18 +14,15 @@ use Rattle.tb_table.specs.Tables.{Tables, docs_columns, docs_alone, row_one}
 use Rattle.ix_search.specs.Hits.{hit_rows}
 use Rattle.db_cond.specs.Lines.{line}
 use Rattle.db_state.specs.Lines.{lines_or_none}
-use Rattle.db_rows.specs.Values.{value_of_column, values_behind_key, row_values}
+use Rattle.db_rows.specs.Values.{values_behind_key, row_values}
 use Rattle.db_select.specs.declared.finds.Selected.{Selected}
 use Rattle.db_select.specs.declared.finds.Selected.TheVariants.{Refused, Rows}
 use Rattle.db_select.specs.declared.finds.FoundRow.{FoundRow}
 use Rattle.db_select.specs.declared.sources.FieldSource.{FieldSource}
 use Rattle.db_select.specs.Fields.{found_fields}
 use Rattle.db_select.specs.Hits.{hits_of}
+use Rattle.db_select.specs.Ordering.{field}
 use Rattle.std.proofs.Common.{ap}
-
-abbrev pub field : List Column → ℤ → List Value → ℕ → Item → Option Value
-field columns r vs score (ColumnItem name) = value_of_column columns r vs name
-field columns r vs score (Score label) = Some (Number (pos score))
 
 -- the line of a row that was found, with its score
 abbrev pub hit_line : Tables → List ℕ → List Column → List Item → ℤ × ℕ → List Value

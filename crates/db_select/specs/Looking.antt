@@ -1,7 +1,9 @@
 -- How much a SELECT with a search looks up, and how much it may.
-use Rattle.std.specs.Prelude.{ℕ, pos, ◌+◌, ◌*◌, ◌≡◌, ◌||◌, Bool, true, false, List, [], ◌∷◌, length, Option, Some, None, Result, codes, refl}
+use Rattle.std.specs.Prelude.{ℕ, pos, ◌+◌, ◌*◌, ◌≡◌, ◌||◌, Bool, true, false, List, [], ◌∷◌, length, ◌≤◌, Option, Some, None, Result, Vec, codes, refl}
 use Rattle.std.specs.List.{list_any}
 use Rattle.std.specs.FinMap.{get}
+use Rattle.std.specs.Str.{chars}
+use Rattle.std.specs.declared.alloc.Global.{Global}
 use Rattle.std.proofs.Common.{ap, ◌∙◌}
 use Rattle.ct_keep.specs.Content.{Content}
 use Rattle.ct_keep.specs.KeeperViews.{Counts, KeeperView}
@@ -16,6 +18,7 @@ use Rattle.st_parse.specs.declared.statements.Cond.TheVariants.{Compare}
 use Rattle.st_parse.specs.declared.statements.Operand.TheVariants.{Text as TextOperand}
 use Rattle.st_parse.specs.declared.statements.Item.{Item}
 use Rattle.st_parse.specs.declared.statements.Item.TheVariants.{Column as ColumnItem, Score as ScoreItem}
+use Rattle.st_parse.specs.declared.statements.OrderItem.{OrderItem}
 use Rattle.st_parse.specs.declared.statements.Pred.{Pred}
 use Rattle.st_parse.specs.declared.statements.SelectList.{SelectList}
 use Rattle.st_parse.specs.declared.statements.SelectList.TheVariants.{Star, CountAll, Items}
@@ -28,14 +31,18 @@ use Rattle.db_state.specs.States.{StoreState, OverNamedTable, OverStates}
 use Rattle.db_state.specs.Effects.{Effect, Does, Refused}
 use Rattle.db_rows.specs.Checking.{cond_columns}
 use Rattle.db_rows.specs.Sources.{of_columns}
-use Rattle.db_rows.specs.Texts.{RisesLeaving, is_named, left_by, passing_text_places}
+use Rattle.db_rows.specs.Texts.{RisesLeaving, is_named, left_by, passing_text_places, texts_alone}
 use Rattle.ix_indexes.specs.Indexes.{Index, as_index}
+use Rattle.ix_search.specs.declared.hits.Hit.{Hit}
 use Rattle.ix_search.specs.Finding.{three_rows}
+use Rattle.cat_where.specs.declared.stages.Where.{Where}
 use Rattle.ix_search.specs.Looking.{foxes}
-use Rattle.db_find.specs.Looking.{allowance_in, four_rows_of_fox, looks_in}
+use Rattle.db_find.specs.Looking.{allowance_in, four_rows_of_fox, leaving_rules, looks_in, texts_in_index}
 use Rattle.db_find.specs.Searches.{Search, Contains, search_in}
 use Rattle.db_find.specs.Seeking.{named_index}
-use Rattle.db_select.specs.Hits.{found_rows}
+use Rattle.db_find.specs.Structured.{asked_where}
+use Rattle.db_select.specs.Hits.{all_conds, found_rows, rows_left}
+use Rattle.db_select.specs.declared.finds.FoundRow.{FoundRow}
 use Rattle.db_select.specs.Predicates.{below_seven, conds_in}
 use Rattle.db_select.specs.Selecting.{select_rows, selected_left}
 use Rattle.db_select.specs.Statements.{select_statement}
@@ -53,16 +60,36 @@ shows Star c = true
 shows CountAll c = false
 shows (Items items) c = list_any (is_column_item c) items
 
--- the list shows it, or a condition is on it
-abbrev pub reads : SelectList → List Cond → Column → Bool
-reads list conds c = shows list c || is_named (cond_columns conds) c
+-- rows are ordered by it
+abbrev pub orders_by : List OrderItem → Column → Bool
+orders_by orders c = list_any (λ o. is_column_item c o.item) orders
+
+-- the list shows it, or rows are ordered by it; what was read of such columns is kept until the lines are made
+abbrev pub keeps : SelectList → List OrderItem → Column → Bool
+keeps list orders c = shows list c || orders_by orders c
+
+-- or a condition is on it
+abbrev pub reads : SelectList → List OrderItem → List Cond → Column → Bool
+reads list orders conds c = keeps list orders c || is_named (cond_columns conds) c
 
 -- the columns of texts, each once, that a list shows; and those that a SELECT reads of a row
 abbrev pub shown_texts : SelectList → List Column → List ℕ
 shown_texts list columns = passing_text_places (shows list) columns
 
-abbrev pub read_texts : SelectList → List Cond → List Column → List ℕ
-read_texts list conds columns = passing_text_places (reads list conds) columns
+abbrev pub kept_texts : SelectList → List OrderItem → List Column → List ℕ
+kept_texts list orders columns = passing_text_places (keeps list orders) columns
+
+abbrev pub read_texts : SelectList → List OrderItem → List Cond → List Column → List ℕ
+read_texts list orders conds columns = passing_text_places (reads list orders conds) columns
+
+-- how many texts of columns a SELECT with a search reads of each row that this finds: its own conditions and its order count
+abbrev pub row_texts : SelectList → Search → List Cond → List Column → ℕ
+row_texts list s conds columns = length (read_texts list (asked_where s).orders (all_conds (asked_where s) conds) columns)
+
+-- HOW MANY TEXTS A SELECT WITH A SEARCH READS at most: those that the search reads to find rows, and of each row that it finds, before the conditions, the text
+-- of each column of texts that the list, a condition or the order names
+abbrev pub select_texts : StoreState → List ℕ → Table → SelectList → Search → List Cond → ℕ
+select_texts m t x list s conds = texts_in_index m.tables (named_index m t x.columns s) s + length (found_rows m t x (Some s)) * row_texts list s conds x.columns
 
 -- ---- what a SELECT with a search looks up at most
 
@@ -73,7 +100,7 @@ index_looks c = record (scan_looks (code kind.Indexes ∷ []) c) { texts = 0 }
 -- where it isn't refused: so many texts for each row that the search finds, and the rows of postings that the search looks at
 abbrev pub found_looks : Content → StoreState → List ℕ → Table → SelectList → Search → List Cond → Counts
 found_looks c m t x list s conds =
-    record (plus (index_looks c) (looks_in c m.thesauri (named_index m t x.columns s) s)) { texts = length (found_rows m t x (Some s)) * length (read_texts list conds x.columns) }
+    record (plus (index_looks c) (looks_in c m.tables m.thesauri (named_index m t x.columns s) s)) { texts = select_texts m t x list s conds }
 
 abbrev pub table_looks : Content → StoreState → List ℕ → Option Table → SelectList → Search → List Cond → Counts
 table_looks c m t None list s conds = no_looks
@@ -91,13 +118,13 @@ select_looks effect c m list t preds s = looks_by effect (index_looks c) (table_
 -- It looked up no more than that, if it has a search; else nothing is said.
 abbrev pub LooksFew : Effect → Content → StoreState → SelectList → List ℕ → List Pred → Option Search → Counts → Counts → Type 0
 LooksFew effect c m list t preds None old new = Unit {0}
-LooksFew effect c m list t preds (Some s) old new = RisesBy (select_looks effect c m list t preds s) old new
+LooksFew effect c m list t preds (Some s) old new = RisesBy (leaving_rules s new (select_looks effect c m list t preds s)) old new
 
 -- The same of a table with these columns, while so many of the texts are left.
 abbrev pub LooksFewLeaving : Content → StoreState → List ℕ → Table → SelectList → Option Search → List Cond → ℕ → Counts → Counts → Type 0
 LooksFewLeaving c m t x list None conds left old new = Unit {0}
 LooksFewLeaving c m t x list (Some s) conds left old new =
-    RisesLeaving (looks_by (select_rows m t x list (Some s) conds) (index_looks c) (found_looks c m t x list s conds)) left old new
+    RisesLeaving (leaving_rules s new (looks_by (select_rows m t x list (Some s) conds) (index_looks c) (found_looks c m t x list s conds))) left old new
 
 -- ---- what calls promise, over each state that the content stands for
 
@@ -110,6 +137,14 @@ LooksFewOver view old new t columns list search conds left =
 abbrev pub FindsFew : {K : Type 0} → (K → KeeperView) → K → K → List ℕ → List Column → SelectList → Option Search → List Cond → Result Selected KeepFault → Type 0
 FindsFew view old new t columns list search conds result = LooksFewOver view old new t columns list search conds (left_by (selected_left (shown_texts list columns)) result)
 
+-- Of each of these rows that a search found, each text that the list, the conditions or the order name was read once at most; those that are left of what is shown
+-- weren't yet.
+abbrev pub ReadsRows : {K : Type 0} → (K → KeeperView) → K → K → SelectList → List Column → Where → List Cond → List Hit → Result (Vec FoundRow Global) KeepFault → Type 0
+ReadsRows view old new list columns asked conds found result =
+    length columns ≤ 256
+    → RisesLeaving (texts_alone (length found * length (read_texts list asked.orders (all_conds asked conds) columns))) (left_by (λ rows. rows_left (shown_texts list columns) rows.items) result)
+    (view old).counts (view new).counts
+
 -- A SELECT LOOKS UP NO MORE THAN THAT.
 abbrev pub SelectsFew : {K : Type 0} → (K → KeeperView) → K → K → (StoreState → SelectList → List ℕ → List Pred → Effect) → SelectList → List ℕ → List Pred → Type 0
 SelectsFew view old new effect list t preds = OverStates view old (λ m c. LooksFew (effect m list t preds) c m list t preds (search_in preds) (view old).counts (view new).counts)
@@ -120,11 +155,10 @@ SelectsFew view old new effect list t preds = OverStates view old (λ m c. Looks
 abbrev pub refused_allowance : Allowance
 refused_allowance = record { texts = Some 0; rows = Some 1; rules = None }
 
--- where it isn't: of each row that the search finds, before the conditions, the text of each column of texts that list and conditions name; and 1
--- row more than the search may look up in its index
+-- where it isn't: so many texts, and 1 row of postings more than the search may look up in its index
 abbrev pub found_allowance : Content → StoreState → List ℕ → Table → SelectList → Search → List Cond → Allowance
 found_allowance c m t x list s conds = record {
-  texts = Some (length (found_rows m t x (Some s)) * length (read_texts list conds x.columns));
+  texts = Some (select_texts m t x list s conds);
   rows = Some (1 + allowance_in c m.thesauri (named_index m t x.columns s) s);
   rules = None;
 }
@@ -151,21 +185,24 @@ SelectsLookFew = (c : Content) (m : StoreState) (list : SelectList) (t : List �
 
 -- ---- computed examples: of the columns id, a (a CLOB), n (a NUMBER) and b (a VARCHAR2)
 
-all_of_them : read_texts Star [] of_columns ≡ 1 ∷ 3 ∷ []
+all_of_them : read_texts Star [] [] of_columns ≡ 1 ∷ 3 ∷ []
 all_of_them = refl
 
 -- SELECT b, id, b .. WHERE b = 'x'
 abbrev b_is_x : Cond
 b_is_x = Compare (codes "b") Equal (TextOperand (codes "x"))
 
-named_thrice : read_texts (Items (ColumnItem (codes "b") ∷ ColumnItem (codes "id") ∷ ColumnItem (codes "b") ∷ [])) (b_is_x ∷ []) of_columns ≡ 3 ∷ []
+named_thrice : read_texts (Items (ColumnItem (codes "b") ∷ ColumnItem (codes "id") ∷ ColumnItem (codes "b") ∷ [])) [] (b_is_x ∷ []) of_columns ≡ 3 ∷ []
 named_thrice = refl
 
-a_count_reads_no_more : read_texts CountAll (below_seven (codes "id") ∷ []) of_columns ≡ []
+a_count_reads_no_more : read_texts CountAll [] (below_seven (codes "id") ∷ []) of_columns ≡ []
 a_count_reads_no_more = refl
 
-and_what_its_conditions_are_on : read_texts CountAll (b_is_x ∷ []) of_columns ≡ 3 ∷ []
+and_what_its_conditions_are_on : read_texts CountAll [] (b_is_x ∷ []) of_columns ≡ 3 ∷ []
 and_what_its_conditions_are_on = refl
+
+and_what_it_is_ordered_by : read_texts CountAll (record { item = ColumnItem (codes "b"); down = true } ∷ []) [] of_columns ≡ 3 ∷ []
+and_what_it_is_ordered_by = refl
 
 no_text_where_it_is_refused : (c : Content) (most : Counts) → (looks_by (Refused WrongValues) (index_looks c) most).texts ≡ 0
 no_text_where_it_is_refused c most = refl
@@ -176,7 +213,8 @@ a_fox = Contains (codes "body") (codes "fox") None (Fits (pos 0))
 
 two_texts : (c : Content) (m : StoreState) (x : Table) → x.columns ≡ docs_columns → found_rows m (codes "docs") x (Some a_fox) ≡ (pos 1, 2) ∷ (pos 7, 1) ∷ []
     → (found_allowance c m (codes "docs") x Star a_fox []).texts ≡ Some 2
-two_texts c m x columns found = λ i. Some (length (found i) * length (read_texts Star [] (columns i)))
+unfolding chars
+two_texts c m x columns found = λ i. Some (texts_in_index m.tables (named_index m (codes "docs") (columns i) a_fox) a_fox + length (found i) * length (read_texts Star [] [] (columns i)))
 
 -- the index `di`, in a content that has three rows of `fox`: one row more for each of the two searches
 five_rows : (m : StoreState) (x : Table) → named_index m (codes "docs") x.columns a_fox ≡ Some (codes "di", as_index three_rows)

@@ -31,11 +31,11 @@ list_columns (Items items) = columns_among items
 
 -- ---- the predicates
 
--- CATSEARCH and MATCHES aren't built yet
+-- MATCHES isn't built yet
 abbrev pub is_built_pred : Pred → Bool
 is_built_pred (CondPred cond) = true
 is_built_pred (Contains column query label above) = true
-is_built_pred (Catsearch column query structured) = false
+is_built_pred (Catsearch column query structured) = true
 is_built_pred (Matches column document) = false
 
 -- the column that the predicate is on

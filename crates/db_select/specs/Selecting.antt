@@ -31,7 +31,7 @@ lacks_index m t columns (Some s) = is_none (index_of_search m t columns s)
 -- why its index refuses it, if there is a search and it does
 abbrev pub query_refusal : StoreState → List ℕ → List Column → Option Search → Option Refusal
 query_refusal m t columns None = None
-query_refusal m t columns (Some s) = refused_by m.thesauri (index_of_search m t columns s) s
+query_refusal m t columns (Some s) = refused_by m.tables m.thesauri (index_of_search m t columns s) s
 
 -- ---- the statement
 

@@ -19,7 +19,7 @@ select_from m list t preds =
     if bytes_eq t (codes "ctx_user_pending") then select_pending m list preds
     else refuse (is_view t) NotUnderstood (select m list t preds)
 
--- CATSEARCH and MATCHES aren't built yet, which comes before all else.
+-- MATCHES isn't built yet, which comes before all else.
 abbrev pub select_statement : StoreState → SelectList → List ℕ → List Pred → Effect
 select_statement m list t preds = refuse (not (list_all is_built_pred preds)) NotUnderstood (select_from m list t preds)
 

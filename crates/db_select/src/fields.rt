@@ -1,8 +1,8 @@
 //! The fields of a line.
 #![tactic(auto, using(ct_keep::specs::laws::Composing::reads_on, ct_keep::specs::laws::Composing::reads_short))]
 
-ghost use Rattle.std.specs.Prelude.{◌≡◌, [], ◌++◌, IfOk, OnOk};
-ghost use Rattle.std.specs.List.{cons_option};
+ghost use Rattle.std.specs.Prelude.{◌≡◌, [], ◌∷◌, ◌++◌, map, IfOk, OnOk};
+ghost use Rattle.std.specs.List.{cons_option, filter_map};
 ghost use Rattle.ct_keep.specs.KeeperViews.{OnlyReads};
 ghost use Rattle.db_rows.specs.Reading.{IsReadOf, OverRow};
 ghost use Rattle.db_rows.specs.Texts.{ReadsOnce};
@@ -36,6 +36,37 @@ fn field<K: Keeper>(
     }
 }
 
+/// Puts a value.
+fn push_value(values: &mut Vec<Option<Value>>, value: Option<Value>) -> Result<(), Memory>
+    ensures { OnOk result (values.new.items ≡ values.old.items ++ value ∷ []) }
+{
+    values.push(value)?;
+    Ok(())
+}
+
+/// The value of each field of a row that was found, of which this was read before.
+pub(crate) fn field_values<K: Keeper>(
+    alloc: Global,
+    keeper: &mut K,
+    table: &Name,
+    sources: &[FieldSource],
+    hit: Hit,
+    read: &mut RowRead,
+) -> Result<Vec<Option<Value>>, KeepFault>
+    requires { (K.view keeper.old).ready }
+    ensures values { OverRow K.view keeper.old table.now hit.key.0 read.old (λ vs. IfOk result (λ values. values.items ≡ map (found_value hit vs) sources.now)) }
+    ensures read { OverRow K.view keeper.old table.now hit.key.0 read.old (λ vs. OnOk result (IsReadOf vs read.new)) }
+    ensures reads { OnlyReads K.view keeper.old keeper.new result }
+    ensures once { ReadsOnce K.view keeper.old keeper.new read.old read.new result (λ places. fields_among places sources.now) }
+{
+    let mut values = Vec::new(alloc);
+    for source in sources {
+        let value = field(alloc, keeper, table, hit, read, *source)?;
+        push_value(&mut values, value)?;
+    }
+    Ok(values)
+}
+
 /// Puts a value, where there is one.
 fn push_some(fields: &mut Vec<Value>, value: Option<Value>) -> Result<(), Memory>
     ensures { OnOk result (fields.new.items ≡ fields.old.items ++ cons_option value []) }
@@ -44,6 +75,17 @@ fn push_some(fields: &mut Vec<Value>, value: Option<Value>) -> Result<(), Memory
         fields.push(value)?;
     }
     Ok(())
+}
+
+/// The values that are there.
+fn present(alloc: Global, values: Vec<Option<Value>>) -> Result<Vec<Value>, Memory>
+    ensures { IfOk result (λ fields. fields.items ≡ filter_map (λ value. value) values.items) }
+{
+    let mut fields = Vec::new(alloc);
+    for value in values {
+        push_some(&mut fields, value)?;
+    }
+    Ok(fields)
 }
 
 /// The fields of a row that was found, of which this was read before.
@@ -60,10 +102,7 @@ pub(crate) fn row_fields<K: Keeper>(
     ensures reads { OnlyReads K.view keeper.old keeper.new result }
     ensures once { ReadsOnce K.view keeper.old keeper.new read.old read.new result (λ places. fields_among places sources.now) }
 {
-    let mut fields = Vec::new(alloc);
-    for source in sources {
-        let value = field(alloc, keeper, table, hit, read, *source)?;
-        push_some(&mut fields, value)?;
-    }
+    let values = field_values(alloc, keeper, table, sources, hit, read)?;
+    let fields = present(alloc, values)?;
     Ok(fields)
 }

@@ -16,6 +16,6 @@ pub(crate) struct FoundRow {
 pub(crate) enum Selected {
     /// No rows, since it is refused, with this line.
     Refused(Vec<u8>),
-    /// Rows in order of their keys.
+    /// Rows in the order in which they are shown.
     Rows(Vec<FoundRow>),
 }

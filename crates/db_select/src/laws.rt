@@ -1,11 +1,23 @@
 //! What holds of what a SELECT looks up.
 
+ghost use Rattle.db_select.specs.Few.{CatsearchReadsFew};
 ghost use Rattle.db_select.specs.Looking.{SelectsLookFew};
 
-/// What a SELECT with a text predicate looks up at most is within what it may: of each row that it finds, the text of each column of texts
-/// that list and conditions name; and of rows of postings and sections one more than its query may look up.
+use db_find::catalogues_find_few;
+
+/// What a SELECT with a text predicate looks up at most is within what it may: the texts that are read to find rows, and of each row that is
+/// found the text of each column of texts that list, conditions and order name; and of rows of postings and sections one more than its query
+/// may look up.
 pub fn looking_law()
     ensures { SelectsLookFew }
 {
     ix_search::looking_law();
+}
+
+/// A CATSEARCH reads no more texts than there are rows with a word that its query takes, times one more than the columns of texts that the
+/// statement names.
+pub fn catsearch_reads_few()
+    ensures { CatsearchReadsFew }
+{
+    catalogues_find_few();
 }

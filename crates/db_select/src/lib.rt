@@ -9,6 +9,7 @@ mod hits;
 mod laws;
 mod listing;
 mod names;
+mod ordering;
 mod pending;
 mod predicates;
 mod selecting;
@@ -17,5 +18,5 @@ mod sources;
 mod statements;
 mod waiting;
 
-pub use laws::looking_law;
+pub use laws::{catsearch_reads_few, looking_law};
 pub use statements::select;

@@ -5,11 +5,11 @@ ghost use Rattle.std.specs.Prelude.{◌≡◌, ◌++◌, map, IfOk, OnOk};
 ghost use Rattle.std.specs.List.{list_all};
 ghost use Rattle.std.specs.Option.{option_map};
 ghost use Rattle.db_state.specs.Columns.{first_unknown};
-ghost use Rattle.db_rows.specs.Checking.{cond_column as column_of_cond};
 ghost use Rattle.db_select.specs.Predicates.{columns_among, cond_in, conds_in as all_conds, is_built_pred, list_columns, pred_column as column_of_pred};
 
 use crate::copying::copy_cond;
 use ct_base::{Memory, Name};
+use db_rows::cond_column;
 use db_state::has_column;
 use st_parse::{Cond, Item, Pred, SelectList};
 use std::alloc::Global;
@@ -19,27 +19,16 @@ fn is_built(pred: &Pred) -> bool
     ensures { result ≡ is_built_pred pred.now }
 {
     match pred {
-        Pred::Cond(_) | Pred::Contains { .. } => true,
-        Pred::Catsearch { .. } | Pred::Matches { .. } => false,
+        Pred::Cond(_) | Pred::Contains { .. } | Pred::Catsearch { .. } => true,
+        Pred::Matches { .. } => false,
     }
 }
 
-/// Whether each predicate is built: CATSEARCH and MATCHES aren't yet.
+/// Whether each predicate is built: MATCHES isn't yet.
 pub(crate) fn are_built(preds: &[Pred]) -> bool
     ensures { result ≡ list_all is_built_pred preds.now }
 {
     preds.iter().all(|pred| is_built(pred))
-}
-
-/// The column that a condition is on.
-fn cond_column(cond: &Cond) -> &Name
-    ensures { result.now ≡ column_of_cond cond.now }
-{
-    match cond {
-        Cond::Compare { column, .. } => column,
-        Cond::Between { column, .. } => column,
-        Cond::OneOf { column, .. } => column,
-    }
 }
 
 /// The column that a predicate is on.

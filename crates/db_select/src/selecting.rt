@@ -1,7 +1,7 @@
 //! SELECT of a table.
 #![tactic(auto, using(ct_keep::specs::laws::Composing::reads_on, ct_keep::specs::laws::Composing::reads_short))]
 
-ghost use Rattle.std.specs.Prelude.{◌≡◌, ◌||◌, Some, None};
+ghost use Rattle.std.specs.Prelude.{◌≡◌, ◌||◌, ◌++◌, IfOk, Some, None};
 ghost use Rattle.ct_keep.specs.KeeperViews.{OnlyReads};
 ghost use Rattle.db_state.specs.States.{Sees};
 ghost use Rattle.db_state.specs.Effects.{reply_by};
@@ -9,23 +9,27 @@ ghost use Rattle.db_rows.specs.Checking.{has_beyond as any_beyond};
 ghost use Rattle.db_find.specs.Searches.{held_search, sought};
 ghost use Rattle.db_select.specs.Checking.{is_out_of_range as out_of_range};
 ghost use Rattle.db_select.specs.Giving.{GivesLines, GivesOver};
-ghost use Rattle.db_select.specs.Looking.{FindsFew, LooksFewOver, SelectsFew};
+ghost use Rattle.db_select.specs.Hits.{GivesAsked, HoldOwn};
+ghost use Rattle.db_select.specs.Looking.{FindsFew, LooksFewOver, ReadsRows, SelectsFew};
 ghost use Rattle.db_select.specs.Selecting.{SelectedOwn, Selects, rows_reply_by, select as select_effect};
 
 use crate::checking::{first_fault, has_wrong_values};
-use crate::finds::Selected;
+use crate::copying::copy_cond;
+use crate::finds::{FoundRow, Selected};
 use crate::hits::{met_hits, unsearched_hits};
 use crate::listing::found_reply;
+use crate::ordering::put_in_order;
 use crate::predicates::{conds_in, unknown_name};
 use crate::showing::shown_by;
-use ct_base::Name;
+use cat_where::Where;
+use ct_base::{Memory, Name};
 use ct_keep::{KeepFault, Keeper};
 use db_cond::{Fault, fault_line};
 use db_find::{Found, Search, find, needed_index, search_in};
 use db_rows::has_beyond;
 use db_state::table_columns;
-use ix_search::looking_law;
-use st_parse::{Cond, Pred, SelectList};
+use ix_search::{Hit, looking_law};
+use st_parse::{Cond, Conds, Pred, SelectList};
 use std::alloc::Global;
 use tb_table::Column;
 
@@ -48,7 +52,7 @@ fn met_rows<K: Keeper>(
     if let Some(fault) = first_fault(wrong_values, out_of_range) {
         return Ok(Selected::Refused(fault_line(alloc, fault)?));
     }
-    let shown = shown_by(alloc, list, columns)?;
+    let shown = shown_by(alloc, list, &[], columns)?;
     let rows = unsearched_hits(alloc, keeper, table, columns, conds, &shown)?;
     Ok(Selected::Rows(rows))
 }
@@ -58,6 +62,44 @@ fn has_bad_number(search: Search<'_>, conds: &[Cond]) -> bool
     ensures { result ≡ (out_of_range (Some (held_search search.entry)) || any_beyond conds.now) }
 {
     search.has_number_out_of_range() || has_beyond(conds)
+}
+
+/// Conditions, and behind them others.
+fn join_conds(alloc: Global, own: Conds, others: &[Cond]) -> Result<Vec<Cond>, Memory>
+    ensures { IfOk result (λ conds. conds.items ≡ own ++ others.now) }
+{
+    let mut conds = own.into_vec();
+    for cond in others {
+        conds.push(copy_cond(alloc, cond)?)?;
+    }
+    Ok(conds)
+}
+
+/// Of rows that a search found those that meet what it asks for and other conditions, in the order that it asks for.
+///
+/// Of each row it reads only what the conditions and the order are on, each text once, and keeps of that what is shown.
+fn asked_rows<K: Keeper>(
+    alloc: Global,
+    keeper: &mut K,
+    list: &SelectList,
+    table: &Name,
+    columns: &[Column],
+    asked: Where,
+    conds: &[Cond],
+    found: &[Hit],
+) -> Result<Vec<FoundRow>, KeepFault>
+    requires { (K.view keeper.old).ready }
+    ensures hits { GivesOver K.view keeper.old table.now columns.now result (λ m x rows. GivesAsked x asked conds.now found.now rows.items) }
+    ensures own { Sees K.view keeper.old result (λ m rows. HoldOwn m.tables table.now rows.items) }
+    ensures reads { OnlyReads K.view keeper.old keeper.new result }
+    ensures once { ReadsRows K.view keeper.old keeper.new list.now columns.now asked conds.now found.now result }
+{
+    let Where { conds: own, orders } = asked;
+    let order = orders.as_slice();
+    let all = join_conds(alloc, own, conds)?;
+    let shown = shown_by(alloc, list, order, columns)?;
+    let rows = met_hits(alloc, keeper, table, columns, &all, &shown, found)?;
+    put_in_order(alloc, keeper, table, columns, order, rows)
 }
 
 /// The rows that a search finds and that meet conditions; or the line of a refusal.
@@ -85,18 +127,17 @@ fn searched_rows<K: Keeper>(
     if let Some(fault) = first_fault(wrong_values, out_of_range) {
         return Ok(Selected::Refused(fault_line(alloc, fault)?));
     }
-    let found = find(alloc, keeper, &index, search)?;
+    let found = find(alloc, keeper, &index, columns, search)?;
     match found {
         Found::Refused(line) => Ok(Selected::Refused(line)),
-        Found::Rows(hits) => {
-            let shown = shown_by(alloc, list, columns)?;
-            let rows = met_hits(alloc, keeper, table, columns, conds, &shown, &hits)?;
+        Found::Rows(hits, asked) => {
+            let rows = asked_rows(alloc, keeper, list, table, columns, asked, conds, &hits)?;
             Ok(Selected::Rows(rows))
         }
     }
 }
 
-/// The rows that a SELECT finds in a table, in order of their keys; or the line of a refusal.
+/// The rows that a SELECT finds in a table, in order of their keys or as a structured query asks for; or the line of a refusal.
 fn selected_rows<K: Keeper>(
     alloc: Global,
     keeper: &mut K,
@@ -138,7 +179,7 @@ fn select_known<K: Keeper>(
     Ok(reply)
 }
 
-/// SELECT of a list from the rows of a table that meet predicates, in order of their keys.
+/// SELECT of a list from the rows of a table that meet predicates, in order of their keys or as a structured query asks for.
 pub(crate) fn select_table<K: Keeper>(
     alloc: Global,
     keeper: &mut K,

@@ -1,15 +1,15 @@
-//! Of which columns a SELECT shows texts.
+//! Of which columns a SELECT shows texts, or orders rows by them.
 #![tactic(auto)]
 
 ghost use Rattle.std.specs.Prelude.{◌≡◌, ◌<◌, ◌≤◌, ◌&&◌, [], ◌∷◌, ◌++◌, length, IfOk, OnOk};
 ghost use Rattle.std.specs.List.{list_any};
 ghost use Rattle.ix_kinds.specs.Targets.{is_text_sort};
 ghost use Rattle.db_rows.specs.Texts.{shown_places};
-ghost use Rattle.db_select.specs.Looking.{is_column_item, shown_texts, shows as list_shows};
+ghost use Rattle.db_select.specs.Looking.{is_column_item, keeps as list_keeps, kept_texts, orders_by as orders_have, shows as list_shows};
 
 use ct_base::Memory;
 use db_rows::Shown;
-use st_parse::{Item, SelectList};
+use st_parse::{Item, OrderItem, SelectList};
 use std::alloc::Global;
 use tb_table::{Column, Sort};
 
@@ -51,11 +51,18 @@ fn shows(list: &SelectList, column: &Column) -> bool
     }
 }
 
-/// Whether the list shows the texts of the column.
-fn shows_texts(list: &SelectList, column: &Column) -> bool
-    ensures { result ≡ (is_text_sort column.now.sort && list_shows list.now column.now) }
+/// Whether rows are ordered by the column.
+fn orders_by(orders: &[OrderItem], column: &Column) -> bool
+    ensures { result ≡ orders_have orders.now column.now }
 {
-    is_of_texts(column.sort) && shows(list, column)
+    orders.iter().any(|order| is_item(&order.item, column))
+}
+
+/// Whether the list shows the texts of the column, or rows are ordered by them.
+fn keeps_texts(list: &SelectList, orders: &[OrderItem], column: &Column) -> bool
+    ensures { result ≡ (is_text_sort column.now.sort && list_keeps list.now orders.now column.now) }
+{
+    is_of_texts(column.sort) && (shows(list, column) || orders_by(orders, column))
 }
 
 /// Puts the place of a column.
@@ -68,13 +75,18 @@ fn push_place(places: &mut Vec<u8>, place: usize) -> Result<(), Memory>
     Ok(())
 }
 
-/// The places of the columns whose texts the list shows. Its cost is the number of columns times that of items.
-fn shown_columns(alloc: Global, list: &SelectList, columns: &[Column]) -> Result<Vec<u8>, Memory>
-    ensures { IfOk result (λ places. length columns.now ≤ 256 → places.items ≡ shown_texts list.now columns.now) }
+/// The places of the columns whose texts the list shows, or by which rows are ordered. Its cost is the number of columns times that of items.
+fn kept_columns(
+    alloc: Global,
+    list: &SelectList,
+    orders: &[OrderItem],
+    columns: &[Column],
+) -> Result<Vec<u8>, Memory>
+    ensures { IfOk result (λ places. length columns.now ≤ 256 → places.items ≡ kept_texts list.now orders.now columns.now) }
 {
     let mut places = Vec::new(alloc);
     for (place, column) in columns.iter().enumerate() {
-        if !shows_texts(list, column) {
+        if !keeps_texts(list, orders, column) {
             continue;
         }
         push_place(&mut places, place)?;
@@ -82,19 +94,20 @@ fn shown_columns(alloc: Global, list: &SelectList, columns: &[Column]) -> Result
     Ok(places)
 }
 
-/// What is to be shown of the rows that are found for a list.
+/// What is to be kept of the rows that are found for a list, in an order.
 pub(crate) fn shown_by(
     alloc: Global,
     list: &SelectList,
+    orders: &[OrderItem],
     columns: &[Column],
 ) -> Result<Shown, Memory>
-    ensures { IfOk result (λ shown. length columns.now ≤ 256 → shown_places shown ≡ shown_texts list.now columns.now) }
+    ensures { IfOk result (λ shown. length columns.now ≤ 256 → shown_places shown ≡ kept_texts list.now orders.now columns.now) }
 {
-    match list {
-        SelectList::CountAll => Ok(Shown::Keys),
-        SelectList::Star | SelectList::Items(_) => {
-            let columns = shown_columns(alloc, list, columns)?;
-            Ok(Shown::Texts(columns))
+    if let SelectList::CountAll = list {
+        if orders.is_empty() {
+            return Ok(Shown::Keys);
         }
     }
+    let columns = kept_columns(alloc, list, orders, columns)?;
+    Ok(Shown::Texts(columns))
 }

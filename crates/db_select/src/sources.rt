@@ -20,7 +20,7 @@ pub(crate) enum FieldSource {
 }
 
 /// Of an item of the list.
-fn field_source(item: &Item, columns: &[Column]) -> FieldSource
+pub(crate) fn field_source(item: &Item, columns: &[Column]) -> FieldSource
     ensures { result ≡ field_source_of columns.now item.now }
 {
     match item {

@@ -47,12 +47,13 @@ fn select_from<K: Keeper>(
     select_table(alloc, keeper, list, table, preds)
 }
 
-/// SELECT of a list by predicates: of the rows of a table, in order of their keys; or, from CTX_USER_PENDING, of the rows that
-/// wait for a synchronisation, in order of the names of indexes and of keys.
+/// SELECT of a list by predicates: of the rows of a table, in order of their keys, or in that which a CATSEARCH asks for; or, from
+/// CTX_USER_PENDING, of the rows that wait for a synchronisation, in order of the names of indexes and of keys.
 ///
-/// Without CONTAINS its cost is that of a walk over the rows that the conditions on the key bound, and of what the other conditions are
-/// on in each of them; with CONTAINS that of the search, and of what the conditions are on in each row that this finds. COUNT(*) costs
-/// no more; a list, and `*`, cost beside it the texts that they show, and the numbers of the rows, as far as no condition is on them.
+/// Without CONTAINS and CATSEARCH its cost is that of a walk over the rows that the conditions on the key bound, and of what the other
+/// conditions are on in each of them; with one of them that of the search, and of what the conditions and the order are on in each row
+/// that this finds, beside n log n comparisons of n rows where an order is asked for. COUNT(*) costs no more; a list, and `*`, cost
+/// beside it the texts that they show, and the numbers of the rows, as far as no condition is on them.
 /// What is read of a row that a search finds is read once. What waits costs a scan of the indexes' entries and of those of the rows
 /// that wait. It changes nothing, and never answers Full.
 pub fn select<K: Keeper>(

@@ -1,18 +1,22 @@
--- A search looks at no more rows than it may and at no text, and at nothing where it is refused.
-use Rattle.std.proofs.Common.{◌≡◌, ◌≤◌, ℕ, List, [], ◌∷◌, Option, Some, None, refl, sym, ap, subst, ◌∙◌, arith}
+-- A search looks at no more rows than it may and at as many texts as it says, and at nothing where it is refused.
+use Rattle.std.proofs.Common.{◌≡◌, ◌≤◌, ℕ, List, [], ◌∷◌, Option, Some, None, refl, sym, ap, subst, inl, inr, ◌∙◌, arith}
 use Rattle.ct_keep.specs.Content.{Content}
 use Rattle.ct_keep.specs.KeeperViews.{Counts}
 use Rattle.ct_keep.specs.Looks.{no_looks, one_if, scan_looks, RisesBy}
 use Rattle.ct_keep.specs.laws.Looks.{behind_kind, rows-scan_looks, texts-scan_looks}
+use Rattle.tb_table.specs.Tables.{Tables}
 use Rattle.tb_table.specs.laws.NameOrder.{at_most_one}
 use Rattle.th_store.specs.Thesauri.{Thesauri}
+use Rattle.ix_kinds.specs.Rows.{table_at}
+use Rattle.ix_kinds.specs.Indextypes.{with_body}
 use Rattle.ix_search.specs.Looking.{QueriesLookFew}
-use Rattle.ix_indexes.specs.Indexes.{Index}
+use Rattle.ix_indexes.specs.Indexes.{Body, Index}
 use Rattle.db_cond.specs.Faults.{Refusal}
-use Rattle.db_find.specs.Finding.{search_refusal}
-use Rattle.db_find.specs.Looking.{allowance_in, looks_in, meaning_allowance, meaning_looks, search_allowance, search_looks}
+use Rattle.db_find.specs.Catalogues.{texts_meant, unless_refused, words_meaning}
+use Rattle.db_find.specs.Finding.{refusal_of_kind, search_refusal}
+use Rattle.db_find.specs.Looking.{allowance_in, looks_in, meaning_allowance, meaning_looks, search_allowance, search_looks, texts_in_index, texts_of_kind}
 use Rattle.db_find.specs.Querying.{Finds, Meaning, Refuses, meaning_of, refusal_in}
-use Rattle.db_find.specs.Searches.{Search, Contains, threshold_of}
+use Rattle.db_find.specs.Searches.{Search, Catsearch, Contains, threshold_of}
 
 -- ---- calls that look at nothing
 
@@ -53,20 +57,26 @@ module _ (few : QueriesLookFew) (m : Content) where
   meaning_rows i (Finds (Some q)) None = omega arith
   meaning_rows i (Finds (Some q)) (Some n) = (few m i q).rows
 
-  looks_texts : (thesauri : Thesauri) (i : List ℕ) (x : Index) (s : Search) → (search_looks m thesauri i x s).texts ≡ 0
-  looks_texts thesauri i x (Contains column query label above) = meaning_texts i (meaning_of x.prefs thesauri query) (threshold_of above)
+  looks_texts : (ts : Tables) (thesauri : Thesauri) (named : List ℕ × Index) (s : Search) → (search_looks m ts thesauri named.0 named.1 s).texts ≡ texts_in_index ts (Some named) s
+  looks_texts ts thesauri named (Contains column query label above) = meaning_texts named.0 (meaning_of named.1.prefs thesauri query) (threshold_of above)
+  looks_texts ts thesauri named (Catsearch column query structured) = refl
 
-  looks_rows : (thesauri : Thesauri) (i : List ℕ) (x : Index) (s : Search) → (search_looks m thesauri i x s).rows ≤ search_allowance m thesauri i x s
-  looks_rows thesauri i x (Contains column query label above) = meaning_rows i (meaning_of x.prefs thesauri query) (threshold_of above)
+  looks_rows : (ts : Tables) (thesauri : Thesauri) (i : List ℕ) (x : Index) (s : Search) → (search_looks m ts thesauri i x s).rows ≤ search_allowance m thesauri i x s
+  looks_rows ts thesauri i x (Contains column query label above) = meaning_rows i (meaning_of x.prefs thesauri query) (threshold_of above)
+  looks_rows ts thesauri i x (Catsearch column query structured) = omega arith
 
-  -- A SEARCH LOOKS AT NO TEXT, and at no more rows than it may.
-  pub in_texts : (thesauri : Thesauri) (named : Option (List ℕ × Index)) (s : Search) → (looks_in m thesauri named s).texts ≡ 0
-  in_texts thesauri None s = refl
-  in_texts thesauri (Some named) s = looks_texts thesauri named.0 named.1 s
+  no_index_no_texts : (ts : Tables) (s : Search) → 0 ≡ texts_in_index ts None s
+  no_index_no_texts ts (Contains column query label above) = refl
+  no_index_no_texts ts (Catsearch column query structured) = refl
 
-  pub in_rows : (thesauri : Thesauri) (named : Option (List ℕ × Index)) (s : Search) → (looks_in m thesauri named s).rows ≤ allowance_in m thesauri named s
-  in_rows thesauri None s = omega arith
-  in_rows thesauri (Some named) s = looks_rows thesauri named.0 named.1 s
+  -- A SEARCH LOOKS AT SO MANY TEXTS, and at no more rows than it may.
+  pub in_texts : (ts : Tables) (thesauri : Thesauri) (named : Option (List ℕ × Index)) (s : Search) → (looks_in m ts thesauri named s).texts ≡ texts_in_index ts named s
+  in_texts ts thesauri None s = no_index_no_texts ts s
+  in_texts ts thesauri (Some named) s = looks_texts ts thesauri named s
+
+  pub in_rows : (ts : Tables) (thesauri : Thesauri) (named : Option (List ℕ × Index)) (s : Search) → (looks_in m ts thesauri named s).rows ≤ allowance_in m thesauri named s
+  in_rows ts thesauri None s = omega arith
+  in_rows ts thesauri (Some named) s = looks_rows ts thesauri named.0 named.1 s
 
 -- ---- nothing where it is refused
 
@@ -74,5 +84,12 @@ refused_meaning : (m : Content) (i : List ℕ) (meaning : Meaning) (threshold : 
 refused_meaning m i (Refuses own) threshold refusal is = refl
 refused_meaning m i (Finds q) threshold refusal is = absurd (cc)
 
-pub refused_looks : (m : Content) (thesauri : Thesauri) (i : List ℕ) (x : Index) (s : Search) (refusal : Refusal) → search_refusal thesauri x s ≡ Some refusal → search_looks m thesauri i x s ≡ no_looks
-refused_looks m thesauri i x (Contains column query label above) refusal is = refused_meaning m i (meaning_of x.prefs thesauri query) (threshold_of above) refusal is
+-- by what the index of a CATSEARCH is
+refused_texts : (ts : Tables) (thesauri : Thesauri) (x : Index) (body : Body) (column query structured : List ℕ) (refusal : Refusal)
+    → refusal_of_kind ts thesauri x body (Catsearch column query structured) ≡ Some refusal → texts_of_kind ts x body (Catsearch column query structured) ≡ 0
+refused_texts ts thesauri x (inl c) column query structured refusal is = refl
+refused_texts ts thesauri x (inr b) column query structured refusal is = ap (λ (o : Option Refusal). unless_refused o (texts_meant (table_at ts x.table) (with_body x b) (words_meaning x.prefs query))) is
+
+pub refused_looks : (m : Content) (ts : Tables) (thesauri : Thesauri) (i : List ℕ) (x : Index) (s : Search) (refusal : Refusal) → search_refusal ts thesauri x s ≡ Some refusal → search_looks m ts thesauri i x s ≡ no_looks
+refused_looks m ts thesauri i x (Contains column query label above) refusal is = refused_meaning m i (meaning_of x.prefs thesauri query) (threshold_of above) refusal is
+refused_looks m ts thesauri i x (Catsearch column query structured) refusal is = ap (λ (n : ℕ). record no_looks { texts = n }) (refused_texts ts thesauri x x.body column query structured refusal is)

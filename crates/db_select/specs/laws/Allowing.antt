@@ -4,7 +4,7 @@ use Rattle.std.specs.FinMap.{get}
 use Rattle.std.proofs.Common.{arith}
 use Rattle.ct_keep.specs.Content.{Content}
 use Rattle.ct_keep.specs.KeeperViews.{Counts, KeeperView, ReadsKeeper}
-use Rattle.ct_keep.specs.Looks.{RisesBy, scan_looks}
+use Rattle.ct_keep.specs.Looks.{RisesBy, no_looks, scan_looks}
 use Rattle.ct_keep.specs.declared.keepers.KeepFault.{KeepFault}
 use Rattle.ct_entry.specs.declared.kinds.Kind.TheVariants as kind
 use Rattle.ct_entry.specs.Kinds.{code}
@@ -16,27 +16,45 @@ use Rattle.ix_search.specs.Looking.{QueriesLookFew}
 use Rattle.db_looks.specs.Allowances.{CountsWithin, LooksOver}
 use Rattle.db_state.specs.States.{StoreState, StandsForState}
 use Rattle.db_state.specs.Effects.{Effect, Does, Refused}
-use Rattle.db_find.specs.Looking.{looks_in}
-use Rattle.db_find.specs.Searches.{Search, search_in}
+use Rattle.db_find.specs.Looking.{leaving_rules, looks_in}
+use Rattle.db_find.specs.Searches.{Search, Catsearch, Contains, search_in}
 use Rattle.db_find.specs.Seeking.{named_index}
 use Rattle.db_find.specs.laws.Looking.{in_rows, indexes_rows}
-use Rattle.db_select.specs.Looking.{LooksFew, SelectsFew, SelectsLookFew, allowance_by, index_looks, looks_by, searching_allowance, select_allowance, table_looks}
+use Rattle.db_select.specs.Looking.{LooksFew, SelectsFew, SelectsLookFew, allowance_by, found_looks, index_looks, looks_by, searching_allowance, select_allowance, table_looks}
 use Rattle.db_select.specs.Predicates.{conds_in}
 use Rattle.db_select.specs.Statements.{select_statement}
 
+-- ---- where nothing is said of rules
+
+-- texts and rows are bounded as before
+pub leaving_texts : (s : Search) (most old new : Counts) → RisesBy (leaving_rules s new most) old new → new.texts ≤ old.texts + most.texts
+leaving_texts (Contains column query label above) most old new rises = rises.texts
+leaving_texts (Catsearch column query structured) most old new rises = rises.texts
+
+pub leaving_rows : (s : Search) (most old new : Counts) → RisesBy (leaving_rules s new most) old new → new.rows ≤ old.rows + most.rows
+leaving_rows (Contains column query label above) most old new rises = rises.rows
+leaving_rows (Catsearch column query structured) most old new rises = rises.rows
+
+-- ---- what a statement looks up
+
 -- by what the statement does, and by the table, if it is there
 table_within : QueriesLookFew → (c : Content) (m : StoreState) (list : SelectList) (t : List ℕ) (conds : List Cond) (s : Search) (effect : Effect) (found : Option Table) (old new : Counts)
-    → RisesBy (looks_by effect (index_looks c) (table_looks c m t found list s conds)) old new → CountsWithin (allowance_by c m list t conds s effect found) old new
+    → RisesBy (leaving_rules s new (looks_by effect (index_looks c) (table_looks c m t found list s conds))) old new → CountsWithin (allowance_by c m list t conds s effect found) old new
 table_within looking c m list t conds s (Refused refusal) found old new rises =
-    let rows : new.rows ≤ old.rows + (scan_looks (code kind.Indexes ∷ []) c).rows = rises.rows in
+    let texts : new.texts ≤ old.texts + 0 = leaving_texts s (index_looks c) old new rises in
+    let rows : new.rows ≤ old.rows + (scan_looks (code kind.Indexes ∷ []) c).rows = leaving_rows s (index_looks c) old new rises in
     let few = indexes_rows c in
-    record { texts = omega (arith, rises.texts); rows = omega (arith, rows, few); rules = tt }
-table_within looking c m list t conds s (Does next reply) None old new rises = record { texts = omega (arith, rises.texts); rows = omega (arith, rises.rows); rules = tt }
+    record { texts = texts; rows = omega (arith, rows, few); rules = tt }
+table_within looking c m list t conds s (Does next reply) None old new rises =
+    let texts : new.texts ≤ old.texts + 0 = leaving_texts s no_looks old new rises in
+    let rows : new.rows ≤ old.rows + 0 = leaving_rows s no_looks old new rises in
+    record { texts = texts; rows = omega (arith, rows); rules = tt }
 table_within looking c m list t conds s (Does next reply) (Some x) old new rises =
-    let rows : new.rows ≤ old.rows + ((scan_looks (code kind.Indexes ∷ []) c).rows + (looks_in c m.thesauri (named_index m t x.columns s) s).rows) = rises.rows in
+    let rows : new.rows ≤ old.rows + ((scan_looks (code kind.Indexes ∷ []) c).rows + (looks_in c m.tables m.thesauri (named_index m t x.columns s) s).rows) =
+    leaving_rows s (found_looks c m t x list s conds) old new rises in
     let few = indexes_rows c in
-    let search = in_rows looking c m.thesauri (named_index m t x.columns s) s in
-    record { texts = rises.texts; rows = omega (arith, rows, few, search); rules = tt }
+    let search = in_rows looking c m.tables m.thesauri (named_index m t x.columns s) s in
+    record { texts = leaving_texts s (found_looks c m t x list s conds) old new rises; rows = omega (arith, rows, few, search); rules = tt }
 
 few_within : QueriesLookFew → (effect : Effect) (c : Content) (m : StoreState) (list : SelectList) (t : List ℕ) (preds : List Pred) (search : Option Search) (old new : Counts)
     → LooksFew effect c m list t preds search old new → CountsWithin (searching_allowance effect c m list t preds search) old new

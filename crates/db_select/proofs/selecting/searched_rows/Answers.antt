@@ -1,26 +1,18 @@
-use Rattle.std.proofs.Common.{ℕ, List, Option, Some, refl, sym, ap, subst, ◌∙◌}
+use Rattle.std.proofs.Common.{List, Option, Some, ap, subst, ◌∙◌}
 use Rattle.std.specs.Prelude.{not, ◌||◌}
 use Rattle.std.proofs.lemmas.Result.{err_from_is_err_and}
 use Rattle.ct_keep.specs.laws.Composing.{reads_hold}
-use Rattle.ix_search.specs.Hits.{hit_rows}
 use Rattle.st_parse.specs.declared.statements.Whole.{Whole}
 use Rattle.tb_table.specs.declared.columns.Column.{Column}
 use Rattle.db_cond.specs.Refused.{refusal_of}
 use Rattle.db_rows.specs.Checking.{fit_columns}
-use Rattle.db_rows.specs.Texts.{HasFewerLeft}
-use Rattle.db_find.specs.declared.finding.Found.TheVariants.{Refused}
+use Rattle.db_find.specs.declared.finding.Found.TheVariants.{Refused, Rows}
 use Rattle.db_find.specs.Searches.{held_search}
-use Rattle.ix_indexes.specs.Indexes.{Index}
 use Rattle.db_find.specs.Seeking.{NeedsIndex, index_of_search}
-use Rattle.db_find.specs.Finding.{GivesFound, found_in, search_refusal, search_rows}
 use Rattle.db_select.specs.Checking.{fit_labels}
-use Rattle.db_select.specs.Hits.{hits_of, rows_left}
-use Rattle.db_select.specs.Looking.{read_texts}
 use Rattle.db_select.specs.Selecting.{select_rows}
-use Rattle.db_select.proofs.HitSteps.{met_are, searched_are}
-use Rattle.db_select.proofs.KnownSearches.{known_search, not_refused, passed_search, refused_search}
-use Rattle.db_select.proofs.SearchLooks.{index_alone, rows_met, search_alone}
-use Rattle.db_select.proofs.ShownLaws.{conds_read, fewer_shown}
+use Rattle.db_select.proofs.KnownSearches.{gives_known, known_alone, known_answers, known_rows, known_search, passed_search, refused_search}
+use Rattle.db_select.proofs.SearchLooks.{index_alone}
 use Rattle.db_select.proofs.SelectLaws.{few_columns, has_needed, needs_none, unindexed, faulty}
 use Rattle.db_select.proofs.selecting.searched_rows.Goals as goal
 
@@ -51,22 +43,18 @@ returns-in-Refused-clause-rows g c = λ m k x holds stands there same.
     known_search m c.args.table.now x c.args.list.now (held_search c.args.search) c.args.conds.now c.args.columns.now same c.in-Some.index _ _ _ _ stands.state.tables stands.state.indexes there
     (c.in_ok-index.ensures.index m k holds stands) c.in-Some.is c.has_wrong_values-wrong_values.ensures c.label.ensures c.has_bad_number-out_of_range.ensures c.in_default-first_fault.ensures in
     let behind = reads_hold _ _ k c.in_ok-index.ensures.reads holds in
-    let gives : GivesFound (search_refusal m.thesauri known.index (held_search c.args.search)) (search_rows m.tables m.thesauri known.index (held_search c.args.search)) (Refused c.in-Refused.line) =
-    subst (GivesFound (search_refusal m.thesauri known.index (held_search c.args.search)) (search_rows m.tables m.thesauri known.index (held_search c.args.search))) c.in-Refused.is (c.in_ok-found.ensures.found m k known.index behind stands known.there known.kind) in
-    refused_search m c.args.table.now x c.args.list.now (held_search c.args.search) c.args.conds.now c.in-Some.index known gives.0 c.in-Refused.line gives.1.0 gives.1.1
+    refused_search known c.in-Refused.line (gives_known known c.in_ok-found.found (Refused c.in-Refused.line) c.in-Refused.is (c.in_ok-found.ensures.found m k known.index behind stands known.there (known_answers known c.args.columns.now same)))
 
 pub returns-clause-rows : goal.returns-clause-rows
 returns-clause-rows g c = λ m k x holds stands there same.
-    let s = held_search c.args.search in
     let known =
     known_search m c.args.table.now x c.args.list.now (held_search c.args.search) c.args.conds.now c.args.columns.now same c.in-Some.index _ _ _ _ stands.state.tables stands.state.indexes there
     (c.in_ok-index.ensures.index m k holds stands) c.in-Some.is c.has_wrong_values-wrong_values.ensures c.label.ensures c.has_bad_number-out_of_range.ensures c.in_default-first_fault.ensures in
     let behind = reads_hold _ _ k c.in_ok-index.ensures.reads holds in
-    let gives = subst (GivesFound (search_refusal m.thesauri known.index s) (search_rows m.tables m.thesauri known.index s)) c.in-Rows.is (c.in_ok-found.ensures.found m k known.index behind stands known.there known.kind) in
     let later = reads_hold _ _ k c.in_ok-found.ensures.reads behind in
-    passed_search m c.args.table.now x c.args.list.now s c.args.conds.now c.in-Some.index known gives.0 c.in_ok-rows-in-Rows.rows
-    (met_are x c.args.conds.now c.deref.result.now (hits_of c.in_ok-rows-in-Rows.rows.items) (search_rows m.tables m.thesauri known.index s) (ap hit_rows c.deref.ensures.value ∙ gives.1) (c.in_ok-rows-in-Rows.ensures.hits m k x later stands there same)
-    ∙ searched_are m c.args.table.now x s c.args.conds.now known.index known.here)
+    passed_search known c.in-Rows.asked c.deref.result.now c.in-Rows.hits c.in_ok-rows-in-Rows.rows
+    (gives_known known c.in_ok-found.found (Rows c.in-Rows.hits c.in-Rows.asked) c.in-Rows.is (c.in_ok-found.ensures.found m k known.index behind stands known.there (known_answers known c.args.columns.now same)))
+    c.deref.ensures.value (c.in_ok-rows-in-Rows.ensures.hits m k x later stands there same)
 
 -- ---- what was looked up
 
@@ -103,59 +91,38 @@ returns-in_err-found-clause-at_most g c = λ m k x holds stands there same.
     let known =
     known_search m c.args.table.now x c.args.list.now (held_search c.args.search) c.args.conds.now c.args.columns.now same c.in-Some.index _ _ _ _ stands.state.tables stands.state.indexes there
     (c.in_ok-index.ensures.index m k holds stands) c.in-Some.is c.has_wrong_values-wrong_values.ensures c.label.ensures c.has_bad_number-out_of_range.ensures c.in_default-first_fault.ensures in
+    let behind = reads_hold _ _ k c.in_ok-index.ensures.reads holds in
     rw (err_from_is_err_and c.from_residual-in_err-found.result c.from_residual-in_err-found.ensures.1).1
-    (search_alone k m c.args.table.now x c.args.list.now (held_search c.args.search) c.args.conds.now c.looking_law.ensures c.in-Some.index known.index known.named _ _ _ _ _ known.effect (c.in_ok-index.ensures.at_most k holds)
-    (c.find.ensures.at_most m k known.index (reads_hold _ _ k c.in_ok-index.ensures.reads holds) stands known.there known.kind))
+    (known_alone known k c.looking_law.ensures _ _ _ (c.in_ok-index.ensures.at_most k holds) (c.find.ensures.at_most m k known.index behind stands known.there (known_answers known c.args.columns.now same)))
 
 pub returns-in-Refused-clause-at_most : goal.returns-in-Refused-clause-at_most
 returns-in-Refused-clause-at_most g c = λ m k x holds stands there same.
     let known =
     known_search m c.args.table.now x c.args.list.now (held_search c.args.search) c.args.conds.now c.args.columns.now same c.in-Some.index _ _ _ _ stands.state.tables stands.state.indexes there
     (c.in_ok-index.ensures.index m k holds stands) c.in-Some.is c.has_wrong_values-wrong_values.ensures c.label.ensures c.has_bad_number-out_of_range.ensures c.in_default-first_fault.ensures in
-    search_alone k m c.args.table.now x c.args.list.now (held_search c.args.search) c.args.conds.now c.looking_law.ensures c.in-Some.index known.index known.named _ _ _ _ _ known.effect (c.in_ok-index.ensures.at_most k holds)
-    (c.in_ok-found.ensures.at_most m k known.index (reads_hold _ _ k c.in_ok-index.ensures.reads holds) stands known.there known.kind)
-
-pub returns-in_err-shown-in-Rows-clause-at_most : goal.returns-in_err-shown-in-Rows-clause-at_most
-returns-in_err-shown-in-Rows-clause-at_most g c = λ m k x holds stands there same.
-    let known =
-    known_search m c.args.table.now x c.args.list.now (held_search c.args.search) c.args.conds.now c.args.columns.now same c.in-Some.index _ _ _ _ stands.state.tables stands.state.indexes there
-    (c.in_ok-index.ensures.index m k holds stands) c.in-Some.is c.has_wrong_values-wrong_values.ensures c.label.ensures c.has_bad_number-out_of_range.ensures c.in_default-first_fault.ensures in
-    rw (err_from_is_err_and c.from_residual-in_err-shown-in-Rows.result c.from_residual-in_err-shown-in-Rows.ensures.1).1
-    (search_alone k m c.args.table.now x c.args.list.now (held_search c.args.search) c.args.conds.now c.looking_law.ensures c.in-Some.index known.index known.named _ _ _ _ _ known.effect (c.in_ok-index.ensures.at_most k holds)
-    (c.in_ok-found.ensures.at_most m k known.index (reads_hold _ _ k c.in_ok-index.ensures.reads holds) stands known.there known.kind))
+    let behind = reads_hold _ _ k c.in_ok-index.ensures.reads holds in
+    known_alone known k c.looking_law.ensures _ _ _ (c.in_ok-index.ensures.at_most k holds) (c.in_ok-found.ensures.at_most m k known.index behind stands known.there (known_answers known c.args.columns.now same))
 
 pub returns-in_err-rows-in-Rows-clause-at_most : goal.returns-in_err-rows-in-Rows-clause-at_most
 returns-in_err-rows-in-Rows-clause-at_most g c = λ m k x holds stands there same.
     let known =
     known_search m c.args.table.now x c.args.list.now (held_search c.args.search) c.args.conds.now c.args.columns.now same c.in-Some.index _ _ _ _ stands.state.tables stands.state.indexes there
     (c.in_ok-index.ensures.index m k holds stands) c.in-Some.is c.has_wrong_values-wrong_values.ensures c.label.ensures c.has_bad_number-out_of_range.ensures c.in_default-first_fault.ensures in
-    let s = held_search c.args.search in
     let behind = reads_hold _ _ k c.in_ok-index.ensures.reads holds in
-    let gives = subst (GivesFound (search_refusal m.thesauri known.index s) (search_rows m.tables m.thesauri known.index s)) c.in-Rows.is (c.in_ok-found.ensures.found m k known.index behind stands known.there known.kind) in
-    let found = ap hit_rows c.deref.ensures.value ∙ gives.1 ∙ sym (ap (λ (i : Option Index). found_in m.tables m.thesauri i s) known.here) in
-    let shown = c.in_ok-shown-in-Rows.ensures (few_columns m c.args.table.now x c.args.columns.now stands.state.tables there same) in
-    let fewer = subst (λ (places : List ℕ). HasFewerLeft places (read_texts c.args.list.now c.args.conds.now c.args.columns.now)) (sym shown) (fewer_shown c.args.list.now c.args.conds.now c.args.columns.now) in
+    let gives = gives_known known c.in_ok-found.found (Rows c.in-Rows.hits c.in-Rows.asked) c.in-Rows.is (c.in_ok-found.ensures.found m k known.index behind stands known.there (known_answers known c.args.columns.now same)) in
     rw (err_from_is_err_and c.from_residual-in_err-rows-in-Rows.result c.from_residual-in_err-rows-in-Rows.ensures.1).1
-    (rows_met k m c.args.table.now x c.args.list.now s c.args.conds.now c.looking_law.ensures c.in-Some.index known.index known.named _ _ c.args.columns.now c.deref.result.now _ _ _ _ _ _
-    (not_refused m c.args.table.now x c.args.list.now s c.args.conds.now c.in-Some.index known gives.0) same found refl
-    (c.in_ok-index.ensures.at_most k holds) (c.in_ok-found.ensures.at_most m k known.index behind stands known.there known.kind)
-    (c.in_err-rows-in-Rows.ensures.once (read_texts c.args.list.now c.args.conds.now c.args.columns.now) fewer (conds_read c.args.list.now c.args.conds.now c.args.columns.now)))
+    (known_rows known k c.looking_law.ensures c.args.columns.now c.in-Rows.asked c.deref.result.now c.in-Rows.hits _ _ _ _ _ same gives c.deref.ensures.value (c.in_ok-index.ensures.at_most k holds)
+    (c.in_ok-found.ensures.at_most m k known.index behind stands known.there (known_answers known c.args.columns.now same)) (c.in_err-rows-in-Rows.ensures.once (few_columns m c.args.table.now x c.args.columns.now stands.state.tables there same)))
 
 pub returns-clause-at_most : goal.returns-clause-at_most
 returns-clause-at_most g c = λ m k x holds stands there same.
     let known =
     known_search m c.args.table.now x c.args.list.now (held_search c.args.search) c.args.conds.now c.args.columns.now same c.in-Some.index _ _ _ _ stands.state.tables stands.state.indexes there
     (c.in_ok-index.ensures.index m k holds stands) c.in-Some.is c.has_wrong_values-wrong_values.ensures c.label.ensures c.has_bad_number-out_of_range.ensures c.in_default-first_fault.ensures in
-    let s = held_search c.args.search in
     let behind = reads_hold _ _ k c.in_ok-index.ensures.reads holds in
-    let gives = subst (GivesFound (search_refusal m.thesauri known.index s) (search_rows m.tables m.thesauri known.index s)) c.in-Rows.is (c.in_ok-found.ensures.found m k known.index behind stands known.there known.kind) in
-    let found = ap hit_rows c.deref.ensures.value ∙ gives.1 ∙ sym (ap (λ (i : Option Index). found_in m.tables m.thesauri i s) known.here) in
-    let shown = c.in_ok-shown-in-Rows.ensures (few_columns m c.args.table.now x c.args.columns.now stands.state.tables there same) in
-    let fewer = subst (λ (places : List ℕ). HasFewerLeft places (read_texts c.args.list.now c.args.conds.now c.args.columns.now)) (sym shown) (fewer_shown c.args.list.now c.args.conds.now c.args.columns.now) in
-    rows_met k m c.args.table.now x c.args.list.now s c.args.conds.now c.looking_law.ensures c.in-Some.index known.index known.named _ _ c.args.columns.now c.deref.result.now _ _ _ _ _ _
-    (not_refused m c.args.table.now x c.args.list.now s c.args.conds.now c.in-Some.index known gives.0) same found (ap (λ (places : List ℕ). rows_left places c.in_ok-rows-in-Rows.rows.items) (sym shown))
-    (c.in_ok-index.ensures.at_most k holds) (c.in_ok-found.ensures.at_most m k known.index behind stands known.there known.kind)
-    (c.in_ok-rows-in-Rows.ensures.once (read_texts c.args.list.now c.args.conds.now c.args.columns.now) fewer (conds_read c.args.list.now c.args.conds.now c.args.columns.now))
+    let gives = gives_known known c.in_ok-found.found (Rows c.in-Rows.hits c.in-Rows.asked) c.in-Rows.is (c.in_ok-found.ensures.found m k known.index behind stands known.there (known_answers known c.args.columns.now same)) in
+    known_rows known k c.looking_law.ensures c.args.columns.now c.in-Rows.asked c.deref.result.now c.in-Rows.hits _ _ _ _ _ same gives c.deref.ensures.value (c.in_ok-index.ensures.at_most k holds)
+    (c.in_ok-found.ensures.at_most m k known.index behind stands known.there (known_answers known c.args.columns.now same)) (c.in_ok-rows-in-Rows.ensures.once (few_columns m c.args.table.now x c.args.columns.now stands.state.tables there same))
 
 -- ---- what was read
 

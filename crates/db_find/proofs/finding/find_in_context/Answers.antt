@@ -9,7 +9,8 @@ use Rattle.db_find.specs.Meanings.{Means}
 use Rattle.db_find.specs.Querying.{Meaning, Finds, meaning_of, refusal_in}
 use Rattle.db_find.specs.Searches.{threshold_of}
 use Rattle.db_find.specs.declared.querying.Meaning.TheVariants.{Refused}
-use Rattle.db_find.proofs.finding.contained.Goals as goal
+use Rattle.db_find.proofs.Enough.{all_are_enough, found_by_rise}
+use Rattle.db_find.proofs.finding.find_in_context.Goals as goal
 
 pub returns-in-Refused-clause-found : goal.returns-in-Refused-clause-found
 returns-in-Refused-clause-found g c = λ m k x holds stands there.
@@ -26,7 +27,7 @@ returns-in_ok-hits-in-Finds-clause-found g c = λ m k x holds stands there.
     c.in_ok-hits-in-Finds.ensures.found m k x behind stands there
     ∙ ap (λ (o : Option ℕ). found_by m.tables x (Finds (option_map reduced_of c.in-Finds.flat)) o) c.threshold_of-above.ensures
     ∙ sym (ap (λ (meaning : Meaning). found_by m.tables x meaning (threshold_of c.args.above)) means) in
-    (ap refusal_in means, rows)
+    (ap refusal_in means, (c.ask_nothing.ensures, all_are_enough _ _ _ _ rows (found_by_rise m.tables x meaning (threshold_of c.args.above))))
 
 -- ---- the look-ups
 
