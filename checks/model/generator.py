@@ -13,6 +13,7 @@ from collections.abc import Callable, Iterable, Sequence
 from dataclasses import dataclass
 from functools import lru_cache, partial
 
+from catalogue_maker import CatalogueMaker
 from documents import Group, SectionKind, document
 from lexemes import KEYWORDS
 from model import STATEMENT_LIMIT, answer
@@ -27,6 +28,7 @@ from vocabulary import (
     BETWEEN_WORDS,
     BEYOND,
     BLANKS,
+    BORDERS,
     BROKEN_TAGS,
     COLUMNS,
     ENDS,
@@ -253,6 +255,14 @@ class Maker:
             return self.number()
         return quoted(self.text_for(column.size if isinstance(column.size, int) else 0))
 
+    def value_of_row(self, table: Table, column: Column) -> str:
+        """Returns a value for a row, at times one that another row has, if it is short; so some rows come in order of their keys alone."""
+        place = table.place(column.name)
+        if place and table.rows and self.chance(0.3) and not self.goes_wrong():
+            value = literal(self.random.choice(list(table.rows.values()))[place])
+            return value if len(value) < 30 else self.value(column)
+        return self.value(column)
+
     def searched_word(self, texts: Sequence[str], index: Index | None) -> str:
         """Returns a word to be searched for, often one of these texts or a stopword."""
         if index is None or self.chance(0.2):
@@ -263,6 +273,14 @@ class Maker:
         if self.chance(0.2):
             keys = [token.key for text in texts for token in tokens(text, index.prefs.lexer)]  # those of tags, too
         return self.spelt_otherwise(self.one_of(keys)) if keys else self.word()
+
+    def words_of_one(self, texts: Sequence[str], index: Index | None) -> list[str]:
+        """Returns words of one of these texts, and at times a stopword or any word; several of them, so that they often stand in one row."""
+        words = document(index.prefs, self.one_of(texts)).words if index is not None and texts else ()
+        keys = [word.key for word in words if word.key is not None]
+        if not keys or self.chance(0.08):
+            return [self.searched_word(texts, index) for _ in range(3)]
+        return [self.spelt_otherwise(key) for key in self.random.sample(keys, min(len(keys), 3))]
 
     def run_of_words(self, texts: Sequence[str], index: Index | None) -> list[str]:
         """Returns two to four words that stand side by side in one of these texts, any word in the place of a stopword."""
@@ -299,6 +317,14 @@ class Maker:
         if self.chance(0.01):
             return ["CREATE", "TABLE", name, *self.columns_of_table(self.random.choice([16, 17]))]
         return ["CREATE", "TABLE", name, *self.columns_of_table(self.random.choice([1, 3, 3, 3, 3, 3, 4, 4, 5, 5]))]
+
+    def create_table_for_catalogue(self) -> list[str]:
+        """Makes a table of a text, with columns that a sub-index may have, in any order."""
+        sorts = [self.one_of(["VARCHAR2 ( 100 )", "VARCHAR2 ( 4000 )", "CLOB"]), "NUMBER", self.one_of(["VARCHAR2 ( 10 )", "VARCHAR2 ( 100 )", "NUMBER"])]
+        names = self.random.sample([name for name in COLUMNS if name != "id"], len(sorts))
+        self.random.shuffle(sorts)
+        columns = [["id", "NUMBER", "PRIMARY", "KEY"], *([name, *sort.split()] for name, sort in zip(names, sorts))]
+        return ["CREATE", "TABLE", self.new(self.state.tables, TABLES), *self.listed(columns)]
 
     def columns_of_table(self, count: int) -> list[str]:
         others = [name for name in COLUMNS if name != "id"]
@@ -353,7 +379,8 @@ class Maker:
         column = self.column(table, lambda it: it in self.free_columns(name, kind))
         index = self.new(self.state.indexes, INDEXES)
         owner = ["CTXSYS", "."] if self.chance(0.7) else []
-        parameters = ["PARAMETERS", "(", quoted(self.parameters(kind, table)), ")"] if self.chance(0.75) else []
+        has_parameters = self.chance(0.9 if kind == "CTXCAT" else 0.75)
+        parameters = ["PARAMETERS", "(", quoted(self.parameters(kind, table)), ")"] if has_parameters else []
         return ["CREATE", "INDEX", index, "ON", name, "(", column.name, ")", "INDEXTYPE", "IS", *owner, kind, *parameters]
 
     def free_columns(self, table: str, kind: Kind) -> list[Column]:
@@ -375,7 +402,7 @@ class Maker:
         words: list[str] = []
         for parameter in self.random.sample(PARAMETERS_OF[kind], len(PARAMETERS_OF[kind])):
             (there, names), default = lists[parameter], PARAMETERS[parameter]
-            if self.chance(0.8 if list(there) else 0.1):
+            if self.chance(0.95 if parameter == "INDEX SET" and fitting else 0.8 if list(there) else 0.1):
                 is_default = default is not None and (self.chance(0.1) or not (list(there) or self.goes_wrong()))
                 words += [*parameter.split(), default if is_default and default is not None else self.known(there, names)]
         if self.goes_wrong():
@@ -414,14 +441,16 @@ class Maker:
             self.random.shuffle(columns)
             if self.goes_wrong():
                 columns[-1] = self.column(table)
-        values = [[self.key(table, is_new=True) if it == table.columns[0] else self.value(it)] for it in columns]
+        values = [[self.key(table, is_new=True) if it == table.columns[0] else self.value_of_row(table, it)] for it in columns]
         if self.goes_wrong():
             values = self.random.choice([values[1:], [*values, ["0"]], [*values, ["'a'"]]]) or values
         names = self.listed([[column.name] for column in columns]) if is_listed else []
         return ["INSERT", "INTO", name, *names, "VALUES", *self.listed(values)]
 
     def condition(self, table: Table) -> list[str]:
-        column = self.column(table, lambda it: it.sort != "CLOB")
+        return self.condition_on(table, self.column(table, lambda it: it.sort != "CLOB"))
+
+    def condition_on(self, table: Table, column: Column) -> list[str]:
         way = self.random.choice(["op", "op", "BETWEEN", "IN"])
         if way == "op":
             return [column.name, self.one_of(["=", "<", "<=", ">", ">="]), self.compared(table, column)]
@@ -457,7 +486,7 @@ class Maker:
         columns = list(dict.fromkeys([*indexed[:1], self.column(table, lambda it: it != table.columns[0])]))
         if self.goes_wrong():
             columns.append(columns[0])
-        assigns = [[it.name, "=", row.get(it.name, "0") if self.chance(0.2) else self.value(it)] for it in columns]
+        assigns = [[it.name, "=", row.get(it.name, "0") if self.chance(0.2) else self.value_of_row(table, it)] for it in columns]
         key = table.columns[0].name
         one = [[key, "=", row.get(key) or self.key(table, is_new=False)]] if self.chance(0.5) else []
         return ["UPDATE", name, "SET", *self.listed(assigns)[1:-1], *self.where(table, one)]
@@ -493,6 +522,54 @@ class Maker:
         conditions = [contains, *([self.condition(table)] if self.chance(0.25) else [])]
         self.random.shuffle(conditions)
         return ["SELECT", *self.shown(table, label), "FROM", name, *self.joined("WHERE", conditions)]
+
+    def select_in_catalogue(self) -> list[str]:
+        """Returns a SELECT with CATSEARCH over a catalogue, where there is one, most of the time by words of its rows."""
+        indexes = [index for index in self.state.indexes.values() if index.kind == "CTXCAT" or self.chance(0.05)]
+        ordered = [index for index in indexes if index.sub_indexes]
+        if not indexes or self.goes_wrong():
+            (name, table), index = self.table(), None
+            column = self.column(table)
+        else:
+            index = self.random.choice(ordered if ordered and self.chance(0.8) else indexes)
+            name, table = index.table, self.state.tables[index.table]
+            column = table.columns[index.place]
+        texts = [str(row[index.place]) for row in table.rows.values()] if index is not None else []
+        makers = partial(self.words_of_one, texts, index), partial(self.run_of_words, texts, index)
+        query = "" if self.goes_wrong() and self.chance(0.3) else CatalogueMaker(self.random, *makers).text()
+        structured = "NULL" if self.chance(0.3) else quoted(self.structured(table, index))
+        above = self.one_of(["1", "-0", *BEYOND]) if self.goes_wrong() else self.one_of(["0"] * 20 + ["00"])
+        catsearch = ["CATSEARCH", "(", column.name, ",", quoted(query), ",", structured, ")", ">", above]
+        conditions = [catsearch, *([self.condition(table)] if self.chance(0.15) else [])]
+        self.random.shuffle(conditions)
+        return ["SELECT", *self.shown(table, None), "FROM", name, *self.joined("WHERE", conditions)]
+
+    def structured(self, table: Table, index: Index | None) -> str:
+        """Returns a structured query, most of the time of columns that the catalogue has in its sub-indexes, and that many rows meet."""
+        names = [name for columns in (() if index is None else index.sub_indexes) for name in columns]
+        there = [column for column in map(table.column, names) if column is not None]
+        is_wrong = not there or self.chance(0.06)
+        count = self.random.choice([0, 0, 1, 1, 1, 2]) if there or self.chance(0.2) else 0
+        columns = [self.column(table) if is_wrong else self.random.choice(there) for _ in range(count + 2)]
+        orders = [[column.name, *self.one_of(["", "", "ASC", "DESC", "DESC"]).split()] for column in columns[count:]]
+        lexemes = self.joined("", [self.broad_condition_on(table, column) for column in columns[:count]])[1:] if count else []
+        if self.chance(0.7 if there else 0.05):
+            lexemes += ["ORDER", "BY", *self.listed(orders[: self.random.choice([1, 1, 2])])[1:-1]]
+        if lexemes and (self.goes_wrong() or self.chance(0.03)):
+            lexemes = self.damaged(lexemes)
+        return self.spelt(lexemes)
+
+    def broad_condition_on(self, table: Table, column: Column) -> list[str]:
+        """Returns a condition that many rows meet, most of the time; of two values the lesser comes first."""
+        place = table.place(column.name)
+        if self.goes_wrong() or self.chance(0.06):
+            return [column.name, self.one_of(["=", "<", ">="]), self.one_of(["''", "0", "-", "- "]) + self.one_of(["", *BORDERS, *BEYOND])]
+        if place is None or not table.rows or self.chance(0.2):
+            return self.condition_on(table, column)
+        values = sorted(row[place] for row in self.random.choices(list(table.rows.values()), k=5))
+        low, high = literal(values[0]), literal(values[-1])
+        conditions = [[">=", low], ["<=", high], ["BETWEEN", low, "AND", high], ["IN", *self.listed([[literal(value)] for value in values])]]
+        return [column.name, *self.random.choice(conditions)]
 
     def shown(self, table: Table, label: str | None) -> list[str]:
         """Returns the list of a SELECT, with the score of this label, if any."""
@@ -710,7 +787,8 @@ class Maker:
         if self.chance(0.3):
             return []
         several = self.random.choice
-        kinds = [self.create_table]
+        has_catalogue = "CATALOGUES" in self.built and self.chance(0.5)
+        kinds = [self.create_table_for_catalogue if has_catalogue and self.chance(0.7) else self.create_table]
         if self.chance(0.7):
             kinds += [self.create_preference, *[self.set_attribute] * several([1, 2, 3, 5])]
         if self.chance(0.6):
@@ -722,10 +800,13 @@ class Maker:
             relations = [self.create_thesaurus, *[self.create_relation] * several([4, 8, 16])]
             relations += [*[self.insert] * 4, self.sync, *[self.select_by_one] * 5]
         rows = [self.insert] * several([1, 2, 4])
-        if "CATALOGUES" in self.built and self.chance(0.5):
-            if self.chance(0.8):
+        if has_catalogue:
+            if self.chance(0.85):
                 kinds += [self.create_index_set, *[self.add_index] * several([1, 1, 2, 3])]
-            kinds += several([[*rows, self.create_catalogue], [self.create_catalogue, *rows]])
+            rows_of_catalogue = [self.insert] * several([2, 4, 7])
+            kinds += several([[*rows_of_catalogue, self.create_catalogue], [self.create_catalogue, *rows_of_catalogue]])
+            if "CATSEARCH" in self.built:
+                kinds += [self.select_in_catalogue] * several([2, 4, 6])
             if self.chance(0.4):
                 return kinds
         return [*kinds, *several([[*rows, self.create_index], [self.create_index, *rows, self.sync]]), *relations]
@@ -736,10 +817,14 @@ class Maker:
         After a change there often is a statement that may show it.
         """
         if self.planned:
-            return self.planned.pop(0)()
+            make = self.planned.pop(0)
+            has_catalogue = make != self.select_in_catalogue or any(it.kind == "CTXCAT" for it in self.state.indexes.values())
+            return make() if has_catalogue else self.create_catalogue()
         tables, searched = self.state.tables, [it for it in self.state.indexes.values() if it.kind == "CONTEXT"]
-        if self.has_changed and searched and self.chance(0.5):
-            return self.random.choice([self.select, self.select, self.view])()
+        catalogues = [it for it in self.state.indexes.values() if it.kind == "CTXCAT" and "CATSEARCH" in self.built]
+        shows = [*[self.select, self.select, self.view] * bool(searched), *[self.select_in_catalogue] * 2 * bool(catalogues)]
+        if self.has_changed and shows and self.chance(0.5):
+            return self.random.choice(shows)()
         rows = sum(len(table.rows) for table in tables.values())
         preferences, stoplists, groups = self.state.preferences, self.state.stoplists, self.state.groups
         has_lists = preferences or stoplists or groups
@@ -772,6 +857,8 @@ class Maker:
             kinds += [(self.create_thesaurus, 1 if self.state.thesauri else 4), (self.create_relation, 12 if self.state.thesauri else 1)]
         if searched and ("WILDCARDS" in self.built or self.state.thesauri):
             kinds.append((self.select_by_one, 14))
+        if "CATSEARCH" in self.built:
+            kinds.append((self.select_in_catalogue, 25 if catalogues else 1))
         makes, weights = zip(*kinds)
         return self.random.choices(makes, weights)[0]()
 

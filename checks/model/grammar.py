@@ -6,6 +6,7 @@ from collections import deque
 from collections.abc import Callable
 from typing import TypeVar
 
+from conditions import COMPARISONS, Condition
 from lexemes import NotUnderstood, Whole, lexemes, whole
 from procedures import (
     AddFieldSection,
@@ -28,10 +29,9 @@ from procedures import (
 from reduction import SEARCHES
 from state import Column, Kind, Operand
 from statements import (
-    COMPARISONS,
     VIEWS,
+    Catsearch,
     Commit,
-    Condition,
     Contains,
     CreateIndex,
     CreateTable,
@@ -41,6 +41,7 @@ from statements import (
     Insert,
     Item,
     Score,
+    Search,
     Select,
     SelectList,
     SelectPending,
@@ -246,7 +247,7 @@ class Parser:
         self.expect("FROM")
         table = self.name()
         predicates = self.list_of(self.predicate, "AND") if self.takes("WHERE") else ()
-        queries = sum(isinstance(predicate, Contains) for predicate in predicates)
+        queries = sum(not isinstance(predicate, Condition) for predicate in predicates)
         if queries > 1:
             raise NotUnderstood
         if table in VIEWS:
@@ -269,10 +270,16 @@ class Parser:
     def item(self) -> Item:
         return Score(self.bracketed(self.number)) if self.takes("SCORE") else self.name()
 
-    def predicate(self) -> Condition | Contains:
-        if not self.takes("CONTAINS"):
-            self.need("CONDITIONS")
-            return self.condition()
+    def predicate(self) -> Condition | Search:
+        if self.takes("CONTAINS"):
+            return self.contains()
+        if self.takes("CATSEARCH"):
+            self.need("CATSEARCH")
+            return self.catsearch()
+        self.need("CONDITIONS")
+        return self.condition()
+
+    def contains(self) -> Contains:
         self.expect("(")
         column = self.name()
         self.expect(",")
@@ -280,6 +287,18 @@ class Parser:
         label = self.number() if self.takes(",") else None
         self.expect(")", ">")
         return Contains(column, query, label, self.number(), SEARCHES - self.built)
+
+    def catsearch(self) -> Catsearch:
+        self.expect("(")
+        column = self.name()
+        self.expect(",")
+        query = self.value_of("text")
+        self.expect(",")
+        structured = None if self.takes("NULL") else self.value_of("text")
+        self.expect(")", ">")
+        if self.number() != 0:
+            raise NotUnderstood
+        return Catsearch(column, query, structured)
 
     def call(self) -> Statement:
         package = self.name()

@@ -43,6 +43,7 @@ BUILT = frozenset({
     "INDEX-SETS",  # CREATE_INDEX_SET, ADD_INDEX
     "PARAMETERS",  # PARAMETERS of a CREATE INDEX
     "CATALOGUES",  # CREATE INDEX of the kind CTXCAT
+    "CATSEARCH",
     "OPERATORS",  # queries of several words, weights and thresholds
     "PHRASES",
     "NEAR",

@@ -287,6 +287,11 @@ def ways(lexemes: Sequence[Lexeme], rules: Grammar) -> list[Items]:
     return found
 
 
+def is_read(found: list[Items]) -> bool:
+    """Returns whether the lexemes before the last place are a whole query by one of these ways."""
+    return any(item.head == "query" for item in found[-1].by_next.get(None, []))
+
+
 # Faults
 
 
@@ -321,8 +326,7 @@ def fault_of(text: str, lexemes: Sequence[Lexeme]) -> Fault | None:
     found = ways(lexemes, GRAMMAR)
     if len(found) <= len(lexemes):
         return Fault(number_at(lexemes, found), lexemes[len(found) - 1].place)
-    is_query = any(item.head == "query" for item in found[-1].by_next.get(None, []))
-    return None if is_query else Fault(20, len(text.encode()) + 1)
+    return None if is_read(found) else Fault(20, len(text.encode()) + 1)
 
 
 # Trees

@@ -316,6 +316,10 @@ FAULT_TEXTS = {
 }
 
 
+def fault_text(fault: Fault) -> str:
+    return FAULT_TEXTS[fault.number].format(fault.place)
+
+
 def searched(text: str, context: Context, unbuilt: frozenset[str] = frozenset()) -> Flat | None:
     """Returns the query that a text is in a context, or None where it finds nothing.
 
@@ -324,7 +328,7 @@ def searched(text: str, context: Context, unbuilt: frozenset[str] = frozenset())
     """
     query = read(text)
     if isinstance(query, Fault):
-        raise NotSearched(query.number, FAULT_TEXTS[query.number].format(query.place))
+        raise NotSearched(query.number, fault_text(query))
     if searches_of(query) & unbuilt:
         raise NotSearched(21, FAULT_TEXTS[21].format(1))
     flat = reduced(query, context)

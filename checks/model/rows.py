@@ -26,6 +26,14 @@ Table created.
 """
 ROW = "INSERT INTO docs VALUES ({key},'{text}',0);\n1 row created.\n"
 SYNC = "EXEC CTX_DDL.SYNC_INDEX('di');\n[ok]\n"
+ITEMS = """\
+EXEC CTX_DDL.CREATE_INDEX_SET('iset');
+[ok]
+EXEC CTX_DDL.ADD_INDEX('iset','price');
+[ok]
+CREATE TABLE items (id NUMBER PRIMARY KEY, title VARCHAR2(100), price NUMBER);
+Table created.
+"""
 
 
 def index(parameters: str) -> str:
@@ -43,6 +51,18 @@ def search(query: str, *lines: str) -> str:
 
 def count(query: str, number: int) -> str:
     return f"SELECT COUNT(*) FROM docs WHERE CONTAINS(body,'{query}',1) > 0;\n{number}\n"
+
+
+def search_items(query: str, structured: str, *lines: str) -> str:
+    """Returns a search of titles, with a structured query as it is written in the statement."""
+    found = "\n".join(lines or ["[none]"])
+    return f"SELECT id FROM items WHERE CATSEARCH(title,'{query}',{structured}) > 0;\n{found}\n"
+
+
+def items(*titles_and_prices: tuple[str, int], parameters: str = "INDEX SET iset") -> str:
+    """Returns the statements that make a table of these titles and prices with a catalogue, with the keys from 1 on."""
+    rows = (f"INSERT INTO items VALUES ({key},'{title}',{price});\n1 row created.\n" for key, (title, price) in enumerate(titles_and_prices, start=1))
+    return ITEMS + f"CREATE INDEX ci ON items(title) INDEXTYPE IS CTXSYS.CTXCAT PARAMETERS ('{parameters}');\nIndex created.\n" + "".join(rows)
 
 
 def table_of(*texts: str, parameters: str = "") -> str:
@@ -326,6 +346,61 @@ DROP INDEX di;
 Index dropped.
 """
     + search("hat", "E27: no index of that kind"),
+    "a search in a catalogue": items(("red car", 9), ("red blue", 3), ("Red hat", 1), ("red hat", 10))
+    + search_items("red - blue", "'price BETWEEN 1 AND 9 ORDER BY price'", "3", "1")
+    + "DELETE FROM items WHERE id = 3;\n1 row deleted.\n"
+    + search_items("red - blue", "'price BETWEEN 1 AND 9 ORDER BY price'", "1")
+    + search_items("red-blue", "NULL", "2")
+    + search_items("red-blue", "'id = 1'", "E33: column id in no sub-index")
+    + search_items("*ed", "NULL", "E20: query syntax at 1")
+    + search_items("h*t", "NULL", "4")
+    + "UPDATE items SET title='red' WHERE id = 4;\n1 row updated.\n"
+    + search_items("h*t", "NULL")
+    + "DROP TABLE items;\nTable dropped.\n",
+    "CATSEARCH of a column without a catalogue": TABLE
+    + index("")
+    + "SELECT id FROM docs WHERE CATSEARCH(body,'a',NULL) > 0;\nE27: no index of that kind\n",
+    # AND binds before `|`, and with `-` goes from left to right; a text between quotes has no signs
+    "query texts of catalogues": items(("red hat", 1), ("hat red car", 2), ("blue car", 3), ("a-b *", 4))
+    + search_items("red hat", "NULL", "1", "2")
+    + search_items('"red hat"', "NULL", "1")
+    + search_items("car - red | hat - car", "NULL", "1", "3")
+    + search_items("red - hat car", "NULL")
+    + search_items("red - (hat - car)", "NULL", "2")
+    + search_items("c*r - r*d", "NULL", "3")
+    + search_items("a-b", "NULL", "4")
+    + search_items('"b *"', "NULL", "4")
+    + search_items("%", "NULL")
+    + search_items('""', "NULL")
+    + search_items('red ""', "NULL", "1", "2")
+    + search_items("(-) red", "NULL", "1", "2")
+    + search_items("- red", "NULL", "E20: query syntax at 1")
+    + search_items("red - - hat", "NULL", "E20: query syntax at 7")
+    + search_items('red "hat', "NULL", "E20: query syntax at 5")
+    + search_items("red |", "NULL", "E20: query syntax at 6")
+    + search_items("a" * 4001, "NULL", "E26: query too large"),
+    # of two columns, of which the first one goes down; ties come by rising keys all the same
+    "structured queries": items(("red", 5), ("red", 7), ("red", 5), ("red", -1))
+    + search_items("red", "''", "1", "2", "3", "4")
+    + search_items("red", "'order by Price desc -- the dearest first'", "2", "1", "3", "4")
+    + search_items("red", "'price > -2 AND price IN (5, -1) ORDER BY price ASC, price DESC'", "4", "1", "3")
+    + search_items("red", "'price = -9223372036854775808'")
+    + search_items("red", "'price = -9223372036854775809'", "E22: number out of range at 10")
+    + search_items("red", "'price < 9223372036854775808'", "E22: number out of range at 9")
+    + search_items("red", "'price ='", "E20: query syntax at 8")
+    + search_items("red", "'price = ''1'''", "E13: wrong type or number of values")
+    + search_items("red", "'price = ''1'' AND id = 1'", "E13: wrong type or number of values")
+    + search_items("red", "'id = ''1'' AND price = ''1'''", "E33: column id in no sub-index")
+    + search_items("red", "'price = 1 ORDER BY nope'", "E33: column nope in no sub-index")
+    + search_items("red |", "'price ='", "E20: query syntax at 6"),
+    "a catalogue by its preferences": STOPLIST
+    + items(("jack is big", 1), ("jack big", 2), parameters="STOPLIST sl")
+    + search_items("is", "NULL")
+    + search_items("is - jack", "NULL")
+    + search_items("jack - is", "NULL", "1", "2")
+    + search_items('"jack is big"', "'price > 0 ORDER BY price DESC'", "E33: column price in no sub-index")
+    + search_items('"jack is big"', "''", "1")
+    + search_items('"is jack"', "NULL", "1", "2"),
     "scores are at most 100, and are weighed": table_of(" ".join(["quick"] * 101), "quick")
     + search("quick", "1|100", "2|1")
     + search("quick*0.1", "1|10", "2|1")

@@ -2,17 +2,20 @@
 
 from __future__ import annotations
 
-import operator
 import re
 from abc import ABC, abstractmethod
 from collections.abc import Iterable, Iterator
 from dataclasses import dataclass
-from typing import Literal
+from typing import ClassVar, Literal
 
+import catalogues
+from catalogues import Order, Structured, read_structured
+from conditions import Condition
 from documents import Group, Prefs, document
 from lexemes import Beyond, Whole, is_name
 from preferences import lexer_options, stop_keys
-from reduction import Context, NotSearched, searched
+from queries import Fault
+from reduction import Context, NotSearched, fault_text, reduced, searched
 from scores import score
 from state import TEXT_LIMIT, Column, Index, Kind, Operand, State, SubIndexes, Table, Value
 from texts import SCORE_LIMIT, WHITE_SPACE, ascii_lower, ascii_upper
@@ -71,8 +74,8 @@ OUT_OF_RANGE = Refusal(22, "number out of range")
 LIMIT_REACHED = Refusal(31, "limit reached")
 STORE_FULL = Refusal(80, "store full")
 
-# The refusals of a statement that is understood, in their order: of all that hold the first one is the reply. That of a query text
-# comes last.
+# The refusals of a statement that is understood, in their order: of all that hold the first one is the reply. Those of query texts
+# come last, in the order in which they are looked for.
 ORDER = (11, 27, 12, 13, 14, 16, 30, 22, 31)
 
 
@@ -306,31 +309,14 @@ class Insert(Statement):
         return count_of(1, "created")
 
 
-COMPARISONS = {"=": operator.eq, "<": operator.lt, "<=": operator.le, ">": operator.gt, ">=": operator.ge}
-
-
-@dataclass(frozen=True)
-class Condition:
-    column: str
-    comparison: str  # a sign, BETWEEN or IN
-    operands: tuple[Operand, ...]
-
-    def refusals(self, table: Table) -> Refusals:
-        """Yields what holds beside an unknown column. A text to compare with may have any length."""
-        column = table.column(self.column)
-        if column is not None and (column.sort == "CLOB" or not all(map(column.takes, self.operands))):
+def wrong_conditions(table: Table, conditions: Iterable[Condition]) -> Refusals:
+    """Yields what holds of conditions beside an unknown column. A CLOB is in none."""
+    for condition in conditions:
+        column = table.column(condition.column)
+        if column is not None and (column.sort == "CLOB" or not condition.fits(column)):
             yield WRONG_VALUES
-        if Beyond() in self.operands:
+        if condition.has_beyond:
             yield OUT_OF_RANGE
-
-    def holds(self, value: Value) -> bool:
-        """Returns whether a value meets it. Texts are ordered by their bytes, which is the order of their characters."""
-        if self.comparison == "IN":
-            return value in self.operands
-        if self.comparison == "BETWEEN":
-            low, high = self.operands
-            return operator.ge(value, low) and operator.le(value, high)
-        return COMPARISONS[self.comparison](value, self.operands[0])
 
 
 def keys_that_meet(table: Table, conditions: Iterable[Condition]) -> list[int]:
@@ -362,8 +348,7 @@ class Update(Statement):
             yield TOO_LONG_VALUE
         if any(isinstance(value, Beyond) for _, value in self.assigns):
             yield OUT_OF_RANGE
-        for condition in self.conditions:
-            yield from condition.refusals(table)
+        yield from wrong_conditions(table, self.conditions)
 
     def effect(self, state: State) -> str:
         table = state.tables[self.table]
@@ -389,8 +374,7 @@ class Delete(Statement):
             yield unknown(self.table)
             return
         yield from unknown_columns(table, (condition.column for condition in self.conditions))
-        for condition in self.conditions:
-            yield from condition.refusals(table)
+        yield from wrong_conditions(table, self.conditions)
 
     def effect(self, state: State) -> str:
         table = state.tables[self.table]
@@ -416,15 +400,85 @@ class Score:
     label: Whole
 
 
+Scored = tuple[int, int]  # the key of a row, and its score
+
+
 @dataclass(frozen=True)
 class Contains:
+    kind: ClassVar[Kind] = "CONTEXT"  # of the index that it asks
     column: str
     query: str
     label: Whole | None
     above: Whole
     unbuilt: frozenset[str]  # what queries may not have yet
 
+    def refusals(self, state: State, index: Index | None) -> Refusals:
+        """Yields what holds beside an unknown column and an index that isn't there."""
+        if isinstance(self.label, Beyond) or not isinstance(self.above, int) or self.above > SCORE_LIMIT:
+            yield OUT_OF_RANGE
+        try:
+            searched(self.query, Context(Prefs() if index is None else index.prefs, state.thesauri), self.unbuilt)
+        except NotSearched as fault:
+            yield Refusal(fault.number, fault.text, is_of_query=True)
 
+    def found(self, state: State, index: Index) -> list[Scored]:
+        """Returns the rows that it finds, in order of key."""
+        assert isinstance(self.above, int)
+        query = searched(self.query, Context(index.prefs, state.thesauri), self.unbuilt)
+        scores = ((key, score(query, document(index.prefs, text))) for key, text in state.synchronised_texts(index))
+        return sorted((key, its_score) for key, its_score in scores if its_score > self.above)
+
+
+def in_order(table: Table, keys: Iterable[int], orders: tuple[Order, ...]) -> list[int]:
+    """Returns the keys of rows by these columns, the first one first, and rows of the same values by rising key."""
+    ordered = sorted(keys)
+    for order in reversed(orders):
+        place = table.names.index(order.column)
+        ordered.sort(key=lambda key: table.rows[key][place], reverse=order.is_descending)  # which leaves those of one value as they are
+    return ordered
+
+
+@dataclass(frozen=True)
+class Catsearch:
+    kind: ClassVar[Kind] = "CTXCAT"
+    column: str
+    query: str
+    structured: str | None
+
+    @property
+    def asked(self) -> Structured | Fault:
+        return read_structured(self.structured or "")
+
+    def refusals(self, state: State, index: Index | None) -> Refusals:
+        """Yields what holds beside an unknown column and an index that isn't there: of the query text, then of the structured query."""
+        asked = self.asked
+        for read in (catalogues.read(self.query), asked):
+            if isinstance(read, Fault):
+                yield Refusal(read.number, fault_text(read), is_of_query=True)
+        if index is not None and isinstance(asked, Structured):
+            yield from self.wrong_columns(state.tables[index.table], index, asked)
+
+    def wrong_columns(self, table: Table, index: Index, asked: Structured) -> Refusals:
+        """Yields what holds of the columns of a structured query, in the order in which they stand there."""
+        sub_columns = {name for columns in index.sub_indexes for name in columns}
+        for part in (*asked.conditions, *asked.orders):
+            column = table.column(part.column)
+            if column is None or column.name not in sub_columns:
+                yield Refusal(33, f"column {part.column} in no sub-index", is_of_query=True)
+            elif isinstance(part, Condition) and not part.fits(column):
+                yield Refusal(WRONG_VALUES.number, WRONG_VALUES.text, is_of_query=True)
+
+    def found(self, state: State, index: Index) -> list[Scored]:
+        """Returns the rows of the table that it finds, in the order that it asks for. None has a score; in a catalogue a word stands or doesn't."""
+        query, asked, table = catalogues.read(self.query), self.asked, state.tables[index.table]
+        assert not isinstance(query, Fault) and isinstance(asked, Structured)
+        flat = reduced(query, Context(index.prefs))
+        texts = ((key, str(table.rows[key][index.place])) for key in keys_that_meet(table, asked.conditions))
+        keys = [key for key, text in texts if score(flat, document(index.prefs, text)) > 0]
+        return [(key, 0) for key in in_order(table, keys, asked.orders)]
+
+
+Search = Contains | Catsearch
 Item = str | Score
 SelectList = Literal["*", "COUNT(*)"] | tuple[Item, ...]
 
@@ -433,7 +487,7 @@ SelectList = Literal["*", "COUNT(*)"] | tuple[Item, ...]
 class Select(Statement):
     shown: SelectList
     table: str
-    predicates: tuple[Condition | Contains, ...]
+    predicates: tuple[Condition | Search, ...]
 
     @property
     def items(self) -> tuple[Item, ...]:
@@ -444,12 +498,18 @@ class Select(Statement):
         return [predicate for predicate in self.predicates if isinstance(predicate, Condition)]
 
     @property
-    def contains(self) -> Contains | None:
-        return next((predicate for predicate in self.predicates if isinstance(predicate, Contains)), None)
+    def search(self) -> Search | None:
+        return next((predicate for predicate in self.predicates if not isinstance(predicate, Condition)), None)
 
     @property
     def scores(self) -> list[Score]:
         return [item for item in self.items if isinstance(item, Score)]
+
+    def index(self, state: State) -> Index | None:
+        """Returns the index that is asked, where it is there."""
+        if self.search is None:
+            return None
+        return state.index_on(self.table, state.tables[self.table].place(self.search.column), self.search.kind)
 
     def refusals(self, state: State) -> Refusals:
         table = state.tables.get(self.table)
@@ -458,38 +518,22 @@ class Select(Statement):
             return
         names = [item for item in self.items if isinstance(item, str)]
         yield from unknown_columns(table, [*names, *(predicate.column for predicate in self.predicates)])
-        if self.contains is not None and state.index_on(self.table, table.place(self.contains.column), "CONTEXT") is None:
+        if self.search is not None and self.index(state) is None:
             yield NO_INDEX
-        label = None if self.contains is None else self.contains.label
+        label = self.search.label if isinstance(self.search, Contains) else None
         if any(item.label != label for item in self.scores):
             yield WRONG_VALUES
-        for condition in self.conditions:
-            yield from condition.refusals(table)
-        yield from self.query_refusals(state)
+        yield from wrong_conditions(table, self.conditions)
+        if self.search is not None:
+            yield from self.search.refusals(state, self.index(state))
 
-    def query_refusals(self, state: State) -> Refusals:
-        contains = self.contains
-        if contains is None:
-            return
-        if isinstance(contains.label, Beyond) or not isinstance(contains.above, int) or contains.above > SCORE_LIMIT:
-            yield OUT_OF_RANGE
-        index = state.index_on(self.table, state.tables[self.table].place(contains.column), "CONTEXT")
-        try:
-            searched(contains.query, Context(Prefs() if index is None else index.prefs, state.thesauri), contains.unbuilt)
-        except NotSearched as fault:
-            yield Refusal(fault.number, fault.text, is_of_query=True)
-
-    def found(self, state: State) -> list[tuple[int, int]]:
-        """Returns the keys of the rows to be shown, in rising order, each with its score."""
-        table = state.tables[self.table]
-        keys = keys_that_meet(table, self.conditions)
-        if self.contains is None:
+    def found(self, state: State) -> list[Scored]:
+        """Returns the rows to be shown, in their order."""
+        keys, index = keys_that_meet(state.tables[self.table], self.conditions), self.index(state)
+        if self.search is None or index is None:
             return [(key, 0) for key in keys]
-        index = state.index_on(self.table, table.place(self.contains.column), "CONTEXT")
-        assert index is not None and isinstance(self.contains.above, int)
-        query = searched(self.contains.query, Context(index.prefs, state.thesauri), self.contains.unbuilt)
-        scores = {key: score(query, document(index.prefs, text)) for key, text in state.synchronised_texts(index)}
-        return [(key, scores[key]) for key in keys if scores.get(key, 0) > self.contains.above]
+        met = frozenset(keys)
+        return [(key, its_score) for key, its_score in self.search.found(state, index) if key in met]
 
     def effect(self, state: State) -> str:
         table, found = state.tables[self.table], self.found(state)

@@ -21,6 +21,7 @@ STRANGE_NAMES = [
     "nope", "x" * 31, "order", "key", "select", "Score", "ctx_user_pending", "ctx_user_index_errors", "local", "1a", "_a", "é",
 ]
 NUMBERS = ["0", "1", "2", "3", "007", str(2**63 - 1), "100", "101"]
+BORDERS = [str(2**63 - 1), str(2**63), str(2**63 + 1)]
 BEYOND = [str(2**63 + 1), "9" * 20, "1" * 5000, "18446744073709551617"]
 # words that fold, compose, or are cut in ways of their own
 WORDS = [
@@ -66,7 +67,14 @@ ENDS = [";\n"] * 90 + ["; \t\r\n", ";\r\n", ";\n\n", " ;\n-- a comment\n", ";", 
 NO_STATEMENTS = [
     "SELECT id FROM docs ORDER BY id",
     "SELECT * FROM docs WHERE CONTAINS(body, 'quick') > 0 ORDER BY id DESC",
-    "SELECT id FROM docs WHERE CATSEARCH(body, 'quick', NULL) > 0",
+    "SELECT id FROM docs WHERE CATSEARCH(body, 'quick') > 0",
+    "SELECT id FROM docs WHERE CATSEARCH(body, 'quick', NULL) > 1",
+    "SELECT id FROM docs WHERE CATSEARCH(body, 'quick', NULL) >= 0",
+    "SELECT id FROM docs WHERE CATSEARCH(body, 'quick', price < 10) > 0",
+    "SELECT id FROM docs WHERE CATSEARCH(body, NULL, NULL) > 0",
+    "SELECT id FROM docs WHERE CATSEARCH(body, 'quick', NULL) > 0 ORDER BY id",
+    "SELECT id FROM docs WHERE CATSEARCH(body, 'a', NULL) > 0 AND CONTAINS(body, 'b') > 0",
+    "SELECT * FROM ctx_user_pending WHERE CATSEARCH(body, 'quick', NULL) > 0",
     "SELECT id FROM docs WHERE MATCHES(body, 'quick') > 0",
     "SELECT id FROM docs WHERE CONTAINS(body, 'a') > 0 AND CONTAINS(body, 'b') > 0",
     "SELECT * FROM ctx_user_index_errors",

@@ -24,7 +24,7 @@ EXEC CTX_DDL.SYNC_INDEX('ci','much');
 EXEC CTX_DDL.SYNC_INDEX('no name','much',2);
 EXEC CTX_DDL.SYNC_INDEX('ti',1,2);
 EXEC CTX_DDL.SYNC_INDEX('ti','much');
--- CATSEARCH isn't built, and neither are rules, PARALLEL and OPTIMIZE_INDEX
+-- rules, PARALLEL and OPTIMIZE_INDEX aren't built; CATSEARCH is, which asks the catalogue alone
 SELECT id FROM items WHERE CATSEARCH(title,'red',NULL) > 0;
 SELECT id FROM items WHERE CATSEARCH(title,'red','price < 5 ORDER BY price') > 0;
 SELECT id FROM nope WHERE CATSEARCH(nope,'',NULL) > 0;
