@@ -1,6 +1,6 @@
 -- CREATE TABLE and CREATE INDEX are read as they are spelt.
 use Rattle.std.proofs.Common.{◌≡◌, ℕ, Bool, true, false, List, [], ◌∷◌, ◌++◌, refl, sym, ap, ◌∙◌, append_assoc, inl, inr, Option, Some, None}
-use Rattle.st_parse.specs.declared.lexemes.Keyword.TheVariants.{Create as CREATE, Table as TABLE, Index as INDEX, On as ON, Indextype as INDEXTYPE, Is as IS, Ctxsys as CTXSYS, Parameters as PARAMETERS, Context as CONTEXT, Ctxcat as CTXCAT, Number as NUMBER, Varchar2 as VARCHAR2, Clob as CLOB, Primary as PRIMARY, Key as KEY, From as FROM, Where as WHERE, And as AND}
+use Rattle.st_parse.specs.declared.lexemes.Keyword.TheVariants.{Create as CREATE, Table as TABLE, Index as INDEX, On as ON, Indextype as INDEXTYPE, Is as IS, Ctxsys as CTXSYS, Parameters as PARAMETERS, Context as CONTEXT, Ctxcat as CTXCAT, Ctxrule as CTXRULE, Number as NUMBER, Varchar2 as VARCHAR2, Clob as CLOB, Primary as PRIMARY, Key as KEY, From as FROM, Where as WHERE, And as AND, Order as ORDER}
 use Rattle.st_parse.specs.declared.lexemes.Symbol.TheVariants.{Open, Close, Comma, Dot}
 use Rattle.st_parse.specs.declared.lexemes.Lexeme.{Lexeme}
 use Rattle.st_parse.specs.declared.lexemes.Lexeme.TheVariants.{Word, Name, Number, Text, Sign}
@@ -8,7 +8,7 @@ use Rattle.st_parse.specs.declared.statements.SortText.{SortText}
 use Rattle.st_parse.specs.declared.statements.SortText.TheVariants.{Number as NumberSort, Varchar2, Clob}
 use Rattle.st_parse.specs.declared.statements.ColumnText.{ColumnText}
 use Rattle.st_parse.specs.declared.statements.IndexKind.{IndexKind}
-use Rattle.st_parse.specs.declared.statements.IndexKind.TheVariants.{Context, Ctxcat}
+use Rattle.st_parse.specs.declared.statements.IndexKind.TheVariants.{Context, Ctxcat, Ctxrule}
 use Rattle.st_parse.specs.declared.statements.Statement.{Statement}
 use Rattle.st_parse.specs.declared.statements.Statement.TheVariants.{CreateTable, CreateIndex}
 use Rattle.st_parse.specs.Lexemes.{◌>>=◌}
@@ -52,6 +52,7 @@ key-again false (Sign Close ∷ rest) follows = refl
 key-again false (Word FROM ∷ rest) follows = refl
 key-again false (Word WHERE ∷ rest) follows = refl
 key-again false (Word AND ∷ rest) follows = refl
+key-again false (Word ORDER ∷ rest) follows = refl
 key-again false rest follows = absurd follows
 
 column-again : (prefix rest : List Lexeme) (column : ColumnText) → IsColumn prefix column → Follows rest → column_at (prefix ++ rest) ≡ Some (column, rest)
@@ -68,6 +69,7 @@ IsTyped ls kind = (kinds : List Lexeme) × IsIndexKind kinds kind × (ls ≡ Wor
 plain-spelt : (ls : List Lexeme) → Spelt IsPlainKind (plain_kind_at ls) ls
 plain-spelt (Word CONTEXT ∷ ls) = (Word CONTEXT ∷ [], refl, refl)
 plain-spelt (Word CTXCAT ∷ ls) = (Word CTXCAT ∷ [], refl, refl)
+plain-spelt (Word CTXRULE ∷ ls) = (Word CTXRULE ∷ [], refl, refl)
 plain-spelt ls = tt
 
 bare-spelt : (o : Option (IndexKind × List Lexeme)) (ls : List Lexeme) → Spelt IsPlainKind o ls → Spelt IsTyped o (Word INDEXTYPE ∷ Word IS ∷ ls)
@@ -90,13 +92,13 @@ kind-spelt ls = tt
 plain-again : (kinds rest : List Lexeme) (kind : IndexKind) → IsPlainKind kinds kind → plain_kind_at (kinds ++ rest) ≡ Some (kind, rest)
 plain-again kinds rest Context e = ap (λ x. plain_kind_at (x ++ rest)) e
 plain-again kinds rest Ctxcat e = ap (λ x. plain_kind_at (x ++ rest)) e
-plain-again kinds rest kind is = absurd is
+plain-again kinds rest Ctxrule e = ap (λ x. plain_kind_at (x ++ rest)) e
 
 -- a type of index begins with no owner
 bare-again : (kinds rest : List Lexeme) (kind : IndexKind) → IsPlainKind kinds kind → kind_at (kinds ++ rest) ≡ Some (kind, rest)
 bare-again kinds rest Context e = ap (λ x. kind_at (x ++ rest)) e
 bare-again kinds rest Ctxcat e = ap (λ x. kind_at (x ++ rest)) e
-bare-again kinds rest kind is = absurd is
+bare-again kinds rest Ctxrule e = ap (λ x. kind_at (x ++ rest)) e
 
 kind-again : (kinds rest : List Lexeme) (kind : IndexKind) → IsIndexKind kinds kind → index_kind_at (Word INDEXTYPE ∷ Word IS ∷ (kinds ++ rest)) ≡ Some (kind, rest)
 kind-again kinds rest kind (inl is) = bare-again kinds rest kind is

@@ -52,7 +52,8 @@ statement-again ls (CreateIndex name table column kind parameters None) (kinds, 
 statement-again ls (Insert table columns values) (names, list, are, are', e) = ap statement_of e ∙ insert-again table columns values names list are are'
 statement-again ls (Update table assigns conds) (list, filter, are, is, e) = ap statement_of e ∙ update-again table assigns conds list filter are is
 statement-again ls (Delete table conds) (from, filter, is, are, e) = ap statement_of e ∙ delete-again table conds from filter is are
-statement-again ls (Select list table preds []) (columns, filter, is, are, few, e) = ap statement_of e ∙ select-again list table preds columns filter is are few
+statement-again ls (Select list table preds orders) (columns, filter, order, is, are, sorts, few, e) =
+    ap statement_of e ∙ select-again list table preds orders columns filter order is are sorts few
 statement-again ls (Exec procedure args) (word, (list, is, are, e)) =
     ap statement_of e ∙ exec-first word (Name (procedure_package procedure) ∷ Sign Dot ∷ Name (procedure_name procedure) ∷ list) is ∙ exec-again procedure args list are
 statement-again ls Commit e = ap statement_of e

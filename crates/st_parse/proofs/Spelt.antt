@@ -1,13 +1,13 @@
 -- What is read as a list is spelt so, and what is spelt so is read.
 use Rattle.std.proofs.Common.{◌≡◌, ℕ, zero, suc, ◌<◌, List, [], ◌∷◌, ◌++◌, length, refl, sym, ap, subst, ◌∙◌, append_assoc, append-nil, length-append, arith, Option, Some, None}
-use Rattle.st_parse.specs.declared.lexemes.Keyword.TheVariants.{From as FROM, Where as WHERE, And as AND}
+use Rattle.st_parse.specs.declared.lexemes.Keyword.TheVariants.{From as FROM, Where as WHERE, And as AND, Order as ORDER}
 use Rattle.st_parse.specs.declared.lexemes.Symbol.TheVariants.{Open, Close, Comma}
 use Rattle.st_parse.specs.declared.lexemes.Lexeme.{Lexeme}
 use Rattle.st_parse.specs.declared.lexemes.Lexeme.TheVariants.{Word, Sign}
 use Rattle.st_parse.specs.declared.listing.Separator.{Separator}
 use Rattle.st_parse.specs.declared.listing.Separator.TheVariants.{Comma as ByComma, And as ByAnd}
 use Rattle.st_parse.specs.Lexemes.{◌>>=◌}
-use Rattle.st_parse.specs.Lists.{AreJoined, AreListed, AreEnclosed, IsWhere, Reader, lexeme_of, joined, limited_list_at, list_at, EndsList, closed, enclosed, ended, enclosed_last, where_of}
+use Rattle.st_parse.specs.Lists.{AreJoined, AreListed, AreEnclosed, IsWhere, Reader, lexeme_of, joined, limited_list_at, list_at, EndsList, closed, enclosed, ended, enclosed_last, where_at, where_of}
 use Rattle.st_parse.proofs.Lists.{joined-on, joined-ends}
 
 -- what was read is spelt before what follows it
@@ -28,7 +28,20 @@ Follows (Sign Close ∷ ls) = Unit {0}
 Follows (Word FROM ∷ ls) = Unit {0}
 Follows (Word WHERE ∷ ls) = Unit {0}
 Follows (Word AND ∷ ls) = Unit {0}
+Follows (Word ORDER ∷ ls) = Unit {0}
 Follows ls = ⊥
+
+-- what may follow a WHERE
+abbrev pub EndsWhere : List Lexeme → Type 0
+EndsWhere [] = Unit {0}
+EndsWhere (Word ORDER ∷ ls) = Unit {0}
+EndsWhere ls = ⊥
+
+-- it may follow an item of a WHERE too, and is no further one
+where-ends : (ls : List Lexeme) → EndsWhere ls → Follows ls × EndsList ByAnd ls
+where-ends [] ends = (tt, tt)
+where-ends (Word ORDER ∷ ls) ends = (tt, tt)
+where-ends ls ends = absurd ends
 
 pub separator-follows : (separator : Separator) (ls : List Lexeme) → Follows (lexeme_of separator ∷ ls)
 separator-follows ByComma ls = tt
@@ -72,7 +85,7 @@ module _ {A : Type 0} (Is : List Lexeme → A → Type 0) (item : Reader A) (spe
   enclosed-spelt (Sign Open ∷ ls) = closed-spelt (list_at ByComma item ls) ls (list_at-spelt ByComma ls)
   enclosed-spelt ls = tt
 
-  last-spelt : (Are : List Lexeme → List A → Type 0) (o : Option (List A × List Lexeme)) (ls : List Lexeme) → Spelt Are o ls → Wholly Are (o >>= ended) ls
+  pub last-spelt : (Are : List Lexeme → List A → Type 0) (o : Option (List A × List Lexeme)) (ls : List Lexeme) → Spelt Are o ls → Wholly Are (o >>= ended) ls
   last-spelt Are None ls are = tt
   last-spelt Are (Some (items, l ∷ rest)) ls are = tt
   last-spelt Are (Some (items, [])) ls (prefix, are, e) = subst (λ x. Are x items) (sym (e ∙ append-nil prefix)) are
@@ -80,16 +93,17 @@ module _ {A : Type 0} (Is : List Lexeme → A → Type 0) (item : Reader A) (spe
   pub enclosed_last-spelt : (ls : List Lexeme) → Wholly (AreEnclosed Is) (enclosed_last item ls) ls
   enclosed_last-spelt ls = last-spelt (AreEnclosed Is) (enclosed item ls) ls (enclosed-spelt ls)
 
-  some-where : (o : Option (List A)) (ls : List Lexeme) → Wholly (AreJoined (Word AND) Is) o ls → Wholly (IsWhere Is) o (Word WHERE ∷ ls)
+  some-where : (o : Option (List A × List Lexeme)) (ls : List Lexeme) → Spelt (AreJoined (Word AND) Is) o ls → Spelt (IsWhere Is) o (Word WHERE ∷ ls)
   some-where None ls are = tt
-  some-where (Some []) ls are = absurd are
-  some-where (Some (a ∷ more)) ls are = (ls, are, refl)
+  some-where (Some ([], rest)) ls (prefix, are, e) = absurd are
+  some-where (Some (a ∷ more, rest)) ls (prefix, are, e) = (Word WHERE ∷ prefix, (prefix, are, refl), ap (λ x. Word WHERE ∷ x) e)
+
+  pub where_at-spelt : (ls : List Lexeme) → Spelt (IsWhere Is) (where_at item ls) ls
+  where_at-spelt (Word WHERE ∷ ls) = some-where (list_at ByAnd item ls) ls (list_at-spelt ByAnd ls)
+  where_at-spelt ls = ([], refl, refl)
 
   pub where-spelt : (ls : List Lexeme) → Wholly (IsWhere Is) (where_of item ls) ls
-  where-spelt [] = refl
-  where-spelt (Word WHERE ∷ ls) =
-      some-where (list_at ByAnd item ls >>= ended) ls (last-spelt (AreJoined (Word AND) Is) (list_at ByAnd item ls) ls (list_at-spelt ByAnd ls))
-  where-spelt ls = tt
+  where-spelt ls = last-spelt (IsWhere Is) (where_at item ls) ls (where_at-spelt ls)
 
 module _ {A : Type 0} (Is : List Lexeme → A → Type 0) (item : Reader A) (again : (prefix rest : List Lexeme) (a : A) → Is prefix a → Follows rest → item (prefix ++ rest) ≡ Some (a, rest)) where
   limited_list_at-again : (separator : Separator) (most : ℕ) (a : A) (more : List A) (ls rest : List Lexeme) → AreJoined (lexeme_of separator) Is ls (a ∷ more)
@@ -125,11 +139,19 @@ module _ {A : Type 0} (Is : List Lexeme → A → Type 0) (item : Reader A) (aga
   pub enclosed_last-again : (ls : List Lexeme) (items : List A) → AreEnclosed Is ls items → enclosed_last item ls ≡ Some items
   enclosed_last-again ls items are = ap (enclosed_last item) (sym (append-nil ls)) ∙ ap (λ o. o >>= ended) (enclosed-again ls [] items are)
 
+  no-where : (rest : List Lexeme) → EndsWhere rest → where_at item rest ≡ Some ([], rest)
+  no-where [] ends = refl
+  no-where (Word ORDER ∷ ls) ends = refl
+  no-where ls ends = absurd ends
+
+  pub where_at-again : (ls rest : List Lexeme) (items : List A) → IsWhere Is ls items → EndsWhere rest → where_at item (ls ++ rest) ≡ Some (items, rest)
+  where_at-again ls rest [] e ends = ap (λ x. where_at item (x ++ rest)) e ∙ no-where rest ends
+  where_at-again ls rest (a ∷ more) (list, are, e) ends =
+      let ends = where-ends rest ends in
+      ap (λ x. where_at item (x ++ rest)) e ∙ list_at-again ByAnd list rest (a ∷ more) are ends.0 ends.1
+
   pub where-again : (ls : List Lexeme) (items : List A) → IsWhere Is ls items → where_of item ls ≡ Some items
-  where-again ls [] e = ap (where_of item) e
-  where-again ls (a ∷ more) (list, are, e) =
-      ap (where_of item) (e ∙ ap (λ x. Word WHERE ∷ x) (sym (append-nil list)))
-      ∙ ap (λ o. o >>= ended) (list_at-again ByAnd list [] (a ∷ more) are tt tt)
+  where-again ls items is = ap (where_of item) (sym (append-nil ls)) ∙ ap (λ o. o >>= ended) (where_at-again ls [] items is tt)
 
 -- what may stand behind a list with commas, and what a WHERE is
 pub where-follows : {A : Type 0} (Is : List Lexeme → A → Type 0) (ls : List Lexeme) (items : List A) → IsWhere Is ls items → Follows ls × EndsList ByComma ls

@@ -1,6 +1,6 @@
 -- CREATE TABLE and CREATE INDEX, as they are spelt and as they are read.
 use Rattle.std.specs.Prelude.{ℕ, ◌≡◌, ◌⊎◌, Bool, true, false, pos, List, [], ◌∷◌, ◌++◌, codes, Option, Some, None, refl}
-use Rattle.st_parse.specs.declared.lexemes.Keyword.TheVariants.{Table as TABLE, Index as INDEX, On as ON, Indextype as INDEXTYPE, Is as IS, Ctxsys as CTXSYS, Parameters as PARAMETERS, Context as CONTEXT, Ctxcat as CTXCAT, Number as NUMBER, Varchar2 as VARCHAR2, Clob as CLOB, Primary as PRIMARY, Key as KEY}
+use Rattle.st_parse.specs.declared.lexemes.Keyword.TheVariants.{Table as TABLE, Index as INDEX, On as ON, Indextype as INDEXTYPE, Is as IS, Ctxsys as CTXSYS, Parameters as PARAMETERS, Context as CONTEXT, Ctxcat as CTXCAT, Ctxrule as CTXRULE, Number as NUMBER, Varchar2 as VARCHAR2, Clob as CLOB, Primary as PRIMARY, Key as KEY}
 use Rattle.st_parse.specs.declared.lexemes.Symbol.TheVariants.{Open, Close, Comma, Dot}
 use Rattle.st_parse.specs.declared.lexemes.Lexeme.{Lexeme}
 use Rattle.st_parse.specs.declared.lexemes.Lexeme.TheVariants.{Word, Name, Number, Text, Sign}
@@ -9,7 +9,7 @@ use Rattle.st_parse.specs.declared.statements.SortText.{SortText}
 use Rattle.st_parse.specs.declared.statements.SortText.TheVariants.{Number as NumberSort, Varchar2, Clob}
 use Rattle.st_parse.specs.declared.statements.ColumnText.{ColumnText}
 use Rattle.st_parse.specs.declared.statements.IndexKind.{IndexKind}
-use Rattle.st_parse.specs.declared.statements.IndexKind.TheVariants.{Context, Ctxcat}
+use Rattle.st_parse.specs.declared.statements.IndexKind.TheVariants.{Context, Ctxcat, Ctxrule}
 use Rattle.st_parse.specs.declared.statements.Statement.{Statement}
 use Rattle.st_parse.specs.declared.statements.Statement.TheVariants.{CreateTable, CreateIndex}
 use Rattle.st_parse.specs.Lexemes.{◌>>=◌}
@@ -34,7 +34,7 @@ IsColumn ls column = (sort : List Lexeme) × IsSortText sort column.sort × (ls 
 abbrev pub IsPlainKind : List Lexeme → IndexKind → Type 0
 IsPlainKind ls Context = ls ≡ Word CONTEXT ∷ []
 IsPlainKind ls Ctxcat = ls ≡ Word CTXCAT ∷ []
-IsPlainKind ls kind = ⊥
+IsPlainKind ls Ctxrule = ls ≡ Word CTXRULE ∷ []
 
 abbrev pub IsIndexKind : List Lexeme → IndexKind → Type 0
 IsIndexKind ls kind = IsPlainKind ls kind ⊎ ((plain : List Lexeme) × IsPlainKind plain kind × (ls ≡ Word CTXSYS ∷ Sign Dot ∷ plain))
@@ -65,6 +65,7 @@ column_at ls = None
 abbrev pub plain_kind_at : Reader IndexKind
 plain_kind_at (Word CONTEXT ∷ ls) = Some (Context, ls)
 plain_kind_at (Word CTXCAT ∷ ls) = Some (Ctxcat, ls)
+plain_kind_at (Word CTXRULE ∷ ls) = Some (Ctxrule, ls)
 plain_kind_at ls = None
 
 abbrev pub kind_at : Reader IndexKind
@@ -121,6 +122,9 @@ of_its_owner = refl
 
 a_catalogue : index_kind_at (Word INDEXTYPE ∷ Word IS ∷ Word CTXCAT ∷ []) ≡ Some (Ctxcat, [])
 a_catalogue = refl
+
+of_rules : index_kind_at (Word INDEXTYPE ∷ Word IS ∷ Word CTXSYS ∷ Sign Dot ∷ Word CTXRULE ∷ []) ≡ Some (Ctxrule, [])
+of_rules = refl
 
 owned_twice : kind_at (Word CTXSYS ∷ Sign Dot ∷ Word CTXSYS ∷ Sign Dot ∷ Word CTXCAT ∷ []) ≡ None
 owned_twice = refl

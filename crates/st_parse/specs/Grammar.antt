@@ -9,12 +9,12 @@ use Rattle.st_parse.specs.declared.lexemes.Lexeme.TheVariants.{Word, Name, Sign}
 use Rattle.st_parse.specs.declared.statements.Whole.TheVariants.{Fits, Beyond}
 use Rattle.st_parse.specs.declared.statements.Operand.TheVariants.{Text as TextValue, Number as NumberValue}
 use Rattle.st_parse.specs.declared.statements.SortText.TheVariants.{Number as NumberSort, Varchar2, Clob}
-use Rattle.st_parse.specs.declared.statements.IndexKind.TheVariants.{Context, Ctxcat}
+use Rattle.st_parse.specs.declared.statements.IndexKind.TheVariants.{Context, Ctxcat, Ctxrule}
 use Rattle.st_parse.specs.declared.statements.Item.TheVariants.{Column, Score}
 use Rattle.st_parse.specs.declared.statements.SelectList.TheVariants.{Star as AllColumns, CountAll, Items}
 use Rattle.st_parse.specs.declared.statements.Compare.TheVariants.{Equal, Less, AtMost, Greater, AtLeast}
 use Rattle.st_parse.specs.declared.statements.Cond.TheVariants.{Compare, Between, OneOf}
-use Rattle.st_parse.specs.declared.statements.Pred.TheVariants.{Cond, Contains, Catsearch}
+use Rattle.st_parse.specs.declared.statements.Pred.TheVariants.{Cond, Contains, Catsearch, Matches}
 use Rattle.st_parse.specs.declared.statements.Arg.TheVariants.{Text as TextArg, Number as NumberArg, Flag}
 use Rattle.st_parse.specs.declared.statements.Statement.{Statement}
 use Rattle.st_parse.specs.declared.statements.Statement.TheVariants.{CreateTable, DropTable, DropIndex, CreateIndex, Insert, Update, Delete, Select, Exec, Commit}
@@ -29,6 +29,7 @@ use Rattle.st_parse.specs.Dropping.{drop_of}
 use Rattle.st_parse.specs.Inserting.{AreColumnNames, insert_of}
 use Rattle.st_parse.specs.Updating.{IsAssign, assign_to, update_of}
 use Rattle.st_parse.specs.Deleting.{IsOptionalFrom, delete_of}
+use Rattle.st_parse.specs.Ordering.{AreOrders, order_item}
 use Rattle.st_parse.specs.Selecting.{IsSelectList, IsPred, is_search, select_of}
 use Rattle.st_parse.specs.declared.procedures.Procedure.TheVariants.{PolicyTokens, SyncIndex}
 use Rattle.st_parse.specs.Procedures.{procedure_package, procedure_name}
@@ -49,9 +50,9 @@ IsStatement ls (Update table assigns conds) =
     (list filter : List Lexeme) × AreListed IsAssign list assigns × IsWhere IsCond filter conds × (ls ≡ Word UPDATE ∷ Name table ∷ Word SET ∷ (list ++ filter))
 IsStatement ls (Delete table conds) =
     (from filter : List Lexeme) × IsOptionalFrom from × IsWhere IsCond filter conds × (ls ≡ Word DELETE ∷ (from ++ Name table ∷ filter))
-IsStatement ls (Select list table preds []) =
-    (columns filter : List Lexeme) × IsSelectList columns list × IsWhere IsPred filter preds × (count_by is_search preds ≤ 1)
-    × (ls ≡ Word SELECT ∷ (columns ++ Word FROM ∷ Name table ∷ filter))
+IsStatement ls (Select list table preds orders) =
+    (columns filter order : List Lexeme) × IsSelectList columns list × IsWhere IsPred filter preds × AreOrders order orders × (count_by is_search preds ≤ 1)
+    × (ls ≡ Word SELECT ∷ (columns ++ Word FROM ∷ Name table ∷ (filter ++ order)))
 IsStatement ls (Exec procedure args) =
     (word : Keyword) × ((list : List Lexeme) × IsExec word × AreArgs list args × (ls ≡ Word word ∷ Name (procedure_package procedure) ∷ Sign Dot ∷ Name (procedure_name procedure) ∷ list))
 IsStatement ls Commit = ls ≡ Word COMMIT ∷ []
@@ -118,8 +119,8 @@ catalogue : read (codes "CREATE INDEX ci ON items(title) INDEXTYPE IS CTXSYS.CTX
 unfolding encode
 catalogue = refl
 
-index_of_later : read (codes "CREATE INDEX di ON docs(body) INDEXTYPE IS CTXRULE") ≡ NoStatement
-index_of_later = refl
+rules : read (codes "CREATE INDEX ri ON desks(rule) INDEXTYPE IS CTXRULE") ≡ Found (CreateIndex (codes "ri") (codes "desks") (codes "rule") Ctxrule None None)
+rules = refl
 
 table_dropped : read (codes "DROP TABLE docs") ≡ Found (DropTable (codes "docs"))
 table_dropped = refl
@@ -183,9 +184,10 @@ two_searches : read (codes "SELECT id FROM docs WHERE CONTAINS(body,'quick') > 0
 unfolding encode
 two_searches = refl
 
-matches_later : read (codes "SELECT id FROM docs WHERE MATCHES(body,'quick') > 0") ≡ NoStatement
+rules_that_match : read (codes "SELECT name FROM desks WHERE MATCHES(rule,'a storm') > 0")
+    ≡ Found (Select (Items (Column (codes "name") ∷ [])) (codes "desks") (Matches (codes "rule") (codes "a storm") ∷ []) [])
 unfolding encode
-matches_later = refl
+rules_that_match = refl
 
 in_a_catalogue : read (codes "SELECT id FROM docs WHERE CATSEARCH(body,'quick',NULL) > 0 AND id < 5")
     ≡ Found (Select (Items (Column (codes "id") ∷ [])) (codes "docs")
@@ -197,12 +199,18 @@ two_kinds_of_searches : read (codes "SELECT id FROM docs WHERE CATSEARCH(body,'q
 unfolding encode
 two_kinds_of_searches = refl
 
-plainly_ordered_later : read (codes "SELECT id FROM docs ORDER BY id") ≡ NoStatement
-plainly_ordered_later = refl
+in_order : read (codes "SELECT id FROM docs ORDER BY price desc, id ASC")
+    ≡ Found (Select (Items (Column (codes "id") ∷ [])) (codes "docs") [] (order_item (Column (codes "price")) true ∷ order_item (Column (codes "id")) false ∷ []))
+in_order = refl
 
-ordered_later : read (codes "SELECT id FROM docs WHERE CONTAINS(body,'quick') > 0 ORDER BY id") ≡ NoStatement
+a_search_in_order : read (codes "SELECT * FROM docs WHERE CONTAINS(body,'quick',1) > 0 ORDER BY score(1), id")
+    ≡ Found (Select AllColumns (codes "docs") (Contains (codes "body") (codes "quick") (Some (Fits (pos 1))) (Fits (pos 0)) ∷ [])
+    (order_item (Score (Fits (pos 1))) false ∷ order_item (Column (codes "id")) false ∷ []))
 unfolding encode
-ordered_later = refl
+a_search_in_order = refl
+
+order_before_where : read (codes "SELECT id FROM docs ORDER BY id WHERE id < 5") ≡ NoStatement
+order_before_where = refl
 
 tokens_of : read (codes "exec\n CTX_DOC . Policy_Tokens ( 'some text' ) -- done") ≡ Found (Exec PolicyTokens (TextArg (codes "some text") ∷ []))
 unfolding encode

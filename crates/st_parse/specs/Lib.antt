@@ -9,6 +9,7 @@ pub mod Dropping
 pub mod Inserting
 pub mod Updating
 pub mod Deleting
+pub mod Ordering
 pub mod Selecting
 pub mod Procedures
 pub mod Calling

@@ -74,11 +74,14 @@ ended (a, l ∷ ls) = None
 abbrev pub enclosed_last : {A : Type 0} → Reader A → List Lexeme → Option (List A)
 enclosed_last item ls = enclosed item ls >>= ended
 
--- the items of a WHERE, where nothing follows them; none where nothing stands here
+-- the items of a WHERE, and what follows them; none where WHERE doesn't stand here
+abbrev pub where_at : {A : Type 0} → Reader A → Reader (List A)
+where_at item (Word WHERE ∷ ls) = list_at ByAnd item ls
+where_at item ls = Some ([], ls)
+
+-- the same where nothing follows
 abbrev pub where_of : {A : Type 0} → Reader A → List Lexeme → Option (List A)
-where_of item [] = Some []
-where_of item (Word WHERE ∷ ls) = list_at ByAnd item ls >>= ended
-where_of item ls = None
+where_of item ls = where_at item ls >>= ended
 
 -- computed examples, with lexemes as the items
 abbrev any_lexeme : Reader Lexeme
@@ -111,3 +114,6 @@ nothing_behind_where = refl
 
 a_comma_between : where_of any_lexeme (Word WHERE ∷ Sign Dot ∷ Sign Comma ∷ Sign Star ∷ []) ≡ None
 a_comma_between = refl
+
+something_behind_where : where_at any_lexeme (Word WHERE ∷ Sign Dot ∷ Word AND ∷ Sign Star ∷ Sign Comma ∷ []) ≡ Some (Sign Dot ∷ Sign Star ∷ [], Sign Comma ∷ [])
+something_behind_where = refl

@@ -92,6 +92,7 @@ fn plain_kind(lexemes: &[Lexeme]) -> Result<(IndexKind, &[Lexeme]), StatementFau
     match lexemes {
         [Lexeme::Word(Keyword::Context), rest @ ..] => Ok((IndexKind::Context, rest)),
         [Lexeme::Word(Keyword::Ctxcat), rest @ ..] => Ok((IndexKind::Ctxcat, rest)),
+        [Lexeme::Word(Keyword::Ctxrule), rest @ ..] => Ok((IndexKind::Ctxrule, rest)),
         _ => Err(StatementFault::Syntax),
     }
 }

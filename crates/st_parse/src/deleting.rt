@@ -4,7 +4,7 @@ ghost use Rattle.st_parse.specs.Deleting.{delete_from_of, delete_of};
 ghost use Rattle.st_parse.specs.Reading.{StatementGives};
 
 use crate::lexemes::{Keyword, Lexeme};
-use crate::listing::read_where;
+use crate::listing::read_where_last;
 use crate::parsing::StatementFault;
 use crate::statements::{Conds, Statement};
 use std::alloc::Global;
@@ -15,7 +15,7 @@ fn delete_from(alloc: Global, lexemes: &[Lexeme]) -> Result<Statement, Statement
 {
     match lexemes {
         [Lexeme::Name(table), rest @ ..] => {
-            let conds = read_where(alloc, rest)?;
+            let conds = read_where_last(alloc, rest)?;
             Ok(Statement::Delete {
                 table: table.clone()?,
                 conds: Conds::of(conds),

@@ -12,6 +12,7 @@ mod lexemes;
 mod lexing;
 mod listing;
 mod numbers;
+mod ordering;
 mod parsing;
 mod procedures;
 mod selecting;

@@ -1,7 +1,7 @@
 //! Lists of items with a separator between them.
 
 ghost use Rattle.std.specs.Prelude.{◌≡◌, ◌≤◌, ◌∷◌, length, IfOk, MatchOption};
-ghost use Rattle.st_parse.specs.Lists.{EndsList, Reader, lexeme_of, list_at, enclosed, enclosed_last, where_of};
+ghost use Rattle.st_parse.specs.Lists.{EndsList, Reader, lexeme_of, list_at, enclosed, enclosed_last, where_at, where_of};
 ghost use Rattle.st_parse.specs.Reading.{ReadGives};
 
 use crate::lexemes::{Keyword, Lexeme, Symbol};
@@ -101,22 +101,29 @@ pub(crate) fn read_enclosed_last<T: Element>(
     }
 }
 
-/// Reads WHERE and items with AND between them, where nothing follows; there is no item where nothing stands here.
+/// Reads WHERE and items with AND between them; gives what follows them too. There is no item where WHERE doesn't stand here.
 pub(crate) fn read_where<T: Element>(
+    alloc: Global,
+    lexemes: &[Lexeme],
+) -> Result<(Vec<T>, &[Lexeme]), StatementFault>
+    ensures { ReadGives (λ x. (x.0.items, x.1.now)) result (where_at T.item_at lexemes.now) }
+{
+    match lexemes {
+        [Lexeme::Word(Keyword::Where), rest @ ..] => read_list(alloc, Separator::And, rest),
+        _ => Ok((Vec::new(alloc), lexemes)),
+    }
+}
+
+/// Reads WHERE and items with AND between them, where nothing follows; there is no item where nothing stands here.
+pub(crate) fn read_where_last<T: Element>(
     alloc: Global,
     lexemes: &[Lexeme],
 ) -> Result<Vec<T>, StatementFault>
     ensures { ReadGives (λ v. v.items) result (where_of T.item_at lexemes.now) }
 {
-    match lexemes {
-        [] => Ok(Vec::new(alloc)),
-        [Lexeme::Word(Keyword::Where), rest @ ..] => {
-            let (items, rest) = read_list(alloc, Separator::And, rest)?;
-            match rest {
-                [] => Ok(items),
-                _ => Err(StatementFault::Syntax),
-            }
-        }
-        _ => Err(StatementFault::Syntax),
+    match read_where(alloc, lexemes) {
+        Ok((items, [])) => Ok(items),
+        Ok(_) => Err(StatementFault::Syntax),
+        Err(fault) => Err(fault),
     }
 }

@@ -1,44 +1,17 @@
 //! SELECT.
 
 ghost use Rattle.std.specs.Prelude.{◌≡◌, ◌≤◌, nat_le, count_by, length, IfOk};
-ghost use Rattle.st_parse.specs.Selecting.{score_at, item_at, label_at, searched_at, threshold_at, contains_at, structured_at, is_zero, catsearch_at, pred_at, is_search, from_of, count_at, items_at, select_list_at, select_of};
+ghost use Rattle.st_parse.specs.Selecting.{label_at, searched_at, threshold_at, contains_at, structured_at, is_zero, above_zero_at, catsearch_at, matches_at, pred_at, is_search, from_of, count_at, items_at, select_list_at, ordered_of, select_of};
 ghost use Rattle.st_parse.specs.Reading.{ReadGives, StatementGives};
 
 use crate::lexemes::{Keyword, Lexeme, Symbol};
 use crate::listing::{Element, Separator, read_list, read_where};
 use crate::numbers::number;
+use crate::ordering::read_orders;
 use crate::parsing::StatementFault;
-use crate::statements::{Cond, Item, Items, Orders, Pred, Preds, SelectList, Statement, Whole};
+use crate::statements::{Cond, Items, Orders, Pred, Preds, SelectList, Statement, Whole};
 use ct_base::{Name, Text};
 use std::alloc::Global;
-
-/// What follows SCORE: a label in parentheses.
-fn read_score(lexemes: &[Lexeme]) -> Result<(Item, &[Lexeme]), StatementFault>
-    ensures gives { ReadGives (λ x. (x.0, x.1.now)) result (score_at lexemes.now) }
-    ensures rest { IfOk result (λ x. length x.1.now ≤ length lexemes.now) }
-{
-    match lexemes {
-        [
-            Lexeme::Sign(Symbol::Open),
-            Lexeme::Number(digits),
-            Lexeme::Sign(Symbol::Close),
-            rest @ ..,
-        ] => Ok((Item::Score(number(digits)), rest)),
-        _ => Err(StatementFault::Syntax),
-    }
-}
-
-impl Element for Item {
-    ghost item_at = { item_at };
-
-    fn read(_alloc: Global, lexemes: &[Lexeme]) -> Result<(Item, &[Lexeme]), StatementFault> {
-        match lexemes {
-            [Lexeme::Name(name), rest @ ..] => Ok((Item::Column(name.clone()?), rest)),
-            [Lexeme::Word(Keyword::Score), rest @ ..] => read_score(rest),
-            _ => Err(StatementFault::Syntax),
-        }
-    }
-}
 
 /// The label at the beginning, if there is one, and what follows it.
 fn read_label(lexemes: &[Lexeme]) -> (Option<Whole>, &[Lexeme])
@@ -136,6 +109,18 @@ fn is_zero(number: Whole) -> bool
     }
 }
 
+/// A search that asks for a score above 0, by what stands behind its texts, and what follows it.
+fn read_above_zero(pred: Pred, lexemes: &[Lexeme]) -> Result<(Pred, &[Lexeme]), StatementFault>
+    ensures gives { ReadGives (λ x. (x.0, x.1.now)) result (above_zero_at pred lexemes.now) }
+    ensures rest { IfOk result (λ x. length x.1.now ≤ length lexemes.now) }
+{
+    let (above, rest) = read_threshold(lexemes)?;
+    if !is_zero(above) {
+        return Err(StatementFault::Syntax);
+    }
+    Ok((pred, rest))
+}
+
 /// CATSEARCH, by what follows it.
 fn read_catsearch(lexemes: &[Lexeme]) -> Result<(Pred, &[Lexeme]), StatementFault>
     ensures gives { ReadGives (λ x. (x.0, x.1.now)) result (catsearch_at lexemes.now) }
@@ -143,18 +128,23 @@ fn read_catsearch(lexemes: &[Lexeme]) -> Result<(Pred, &[Lexeme]), StatementFaul
 {
     let (column, query, rest) = read_searched(lexemes)?;
     let (structured, rest) = read_structured(rest)?;
-    let (above, rest) = read_threshold(rest)?;
-    if !is_zero(above) {
-        return Err(StatementFault::Syntax);
-    }
-    Ok((
+    read_above_zero(
         Pred::Catsearch {
             column,
             query,
             structured,
         },
         rest,
-    ))
+    )
+}
+
+/// MATCHES, by what follows it.
+fn read_matches(lexemes: &[Lexeme]) -> Result<(Pred, &[Lexeme]), StatementFault>
+    ensures gives { ReadGives (λ x. (x.0, x.1.now)) result (matches_at lexemes.now) }
+    ensures rest { IfOk result (λ x. length x.1.now ≤ length lexemes.now) }
+{
+    let (column, document, rest) = read_searched(lexemes)?;
+    read_above_zero(Pred::Matches { column, document }, rest)
 }
 
 impl Element for Pred {
@@ -164,6 +154,7 @@ impl Element for Pred {
         match lexemes {
             [Lexeme::Word(Keyword::Contains), rest @ ..] => read_contains(rest),
             [Lexeme::Word(Keyword::Catsearch), rest @ ..] => read_catsearch(rest),
+            [Lexeme::Word(Keyword::Matches), rest @ ..] => read_matches(rest),
             _ => {
                 let (cond, rest) = Cond::read(alloc, lexemes)?;
                 Ok((Pred::Cond(cond), rest))
@@ -189,22 +180,36 @@ fn has_at_most_one_search(preds: &[Pred]) -> bool
     preds.iter().filter(|pred| is_search(pred)).count() <= 1
 }
 
+/// What follows the predicates: the order, where nothing follows it.
+fn ordered(
+    alloc: Global,
+    list: SelectList,
+    table: &Name,
+    preds: Vec<Pred>,
+    lexemes: &[Lexeme],
+) -> Result<Statement, StatementFault>
+    ensures { StatementGives result (ordered_of list table.now (preds.items, lexemes.now)) }
+{
+    let orders = read_orders(alloc, lexemes)?;
+    if !has_at_most_one_search(preds.as_slice()) {
+        return Err(StatementFault::Syntax);
+    }
+    Ok(Statement::Select {
+        list,
+        table: table.clone()?,
+        preds: Preds::of(preds),
+        orders: Orders::of(orders),
+    })
+}
+
 /// What follows the list.
 fn from(alloc: Global, list: SelectList, lexemes: &[Lexeme]) -> Result<Statement, StatementFault>
     ensures { StatementGives result (from_of list lexemes.now) }
 {
     match lexemes {
         [Lexeme::Word(Keyword::From), Lexeme::Name(table), rest @ ..] => {
-            let preds = read_where(alloc, rest)?;
-            if !has_at_most_one_search(preds.as_slice()) {
-                return Err(StatementFault::Syntax);
-            }
-            Ok(Statement::Select {
-                list,
-                table: table.clone()?,
-                preds: Preds::of(preds),
-                orders: Orders::empty(alloc),
-            })
+            let (preds, rest) = read_where(alloc, rest)?;
+            ordered(alloc, list, table, preds, rest)
         }
         _ => Err(StatementFault::Syntax),
     }

@@ -4,7 +4,7 @@ ghost use Rattle.st_parse.specs.Updating.{assign_at, update_where_of, update_of}
 ghost use Rattle.st_parse.specs.Reading.{StatementGives};
 
 use crate::lexemes::{Keyword, Lexeme, Symbol};
-use crate::listing::{Element, Separator, read_list, read_where};
+use crate::listing::{Element, Separator, read_list, read_where_last};
 use crate::parsing::StatementFault;
 use crate::statements::{Assign, Assigns, Conds, Statement};
 use crate::values::read_operand;
@@ -35,7 +35,7 @@ fn update_where(
 ) -> Result<Statement, StatementFault>
     ensures { StatementGives result (update_where_of table.now assigns.items lexemes.now) }
 {
-    let conds = read_where(alloc, lexemes)?;
+    let conds = read_where_last(alloc, lexemes)?;
     Ok(Statement::Update {
         table: table.clone()?,
         assigns: Assigns::of(assigns),
