@@ -1,11 +1,11 @@
 -- Between which keys the rows lie that meet conditions.
-use Rattle.std.specs.Prelude.{ℤ, pos, ◌≡◌, ◌↔◌, ◌≤ℤ◌, ◌||◌, not, Bool, true, false, List, [], ◌∷◌, codes, refl}
+use Rattle.std.specs.Prelude.{ℕ, ℤ, pos, ◌≡◌, ◌↔◌, ◌≤ℤ◌, ◌||◌, not, Bool, true, false, List, [], ◌∷◌, codes, refl}
 use Rattle.std.specs.List.{list_all}
 use Rattle.std.proofs.Common.{arith}
 use Rattle.std.proofs.lemmas.Int.{ints}
 use Rattle.ct_base.specs.declared.lists.Value.{Value}
 use Rattle.ct_base.specs.declared.lists.Value.TheVariants.{Number as NumberValue, Text as TextValue}
-use Rattle.ct_entry.specs.Keys.{IsRow}
+use Rattle.ct_entry.specs.Keys.{IsRow, same_list}
 use Rattle.st_parse.specs.declared.statements.Operand.{Operand}
 use Rattle.st_parse.specs.declared.statements.Operand.TheVariants.{Number}
 use Rattle.st_parse.specs.declared.statements.Whole.TheVariants.{Fits}
@@ -63,6 +63,24 @@ allows_key columns r cond = not (is_key_source (source_of (cond_column cond) col
 abbrev pub AreTight : List Column → List Cond → KeyBounds → Type 0
 AreTight columns conds b = (r : ℤ) → IsRow r → IsWithinBounds b r → list_all (allows_key columns r) conds ≡ true
 
+-- ---- the numbers in a column
+
+-- whether the condition holds of the number, if it is on the column with this name
+abbrev pub allows_number : List ℕ → ℤ → Cond → Bool
+allows_number name n cond = not (same_list (cond_column cond) name) || holds cond (NumberValue n)
+
+-- each number of which all conditions on the column hold lies within
+abbrev pub BoundNumbers : List ℕ → List Cond → KeyBounds → Type 0
+BoundNumbers name conds b = (n : ℤ) → IsRow n → list_all (allows_number name n) conds ≡ true → IsWithinBounds b n
+
+-- whether it holds of the number, if it is on the column and no list
+abbrev pub allows_but_list : List ℕ → ℤ → Cond → Bool
+allows_but_list name n cond = not (same_list (cond_column cond) name) || (not (is_range cond) || holds cond (NumberValue n))
+
+-- of each number within the bounds each such condition holds
+abbrev pub AreTightNumbers : List ℕ → List Cond → KeyBounds → Type 0
+AreTightNumbers name conds b = (n : ℤ) → IsRow n → IsWithinBounds b n → list_all (allows_but_list name n) conds ≡ true
+
 -- computed examples
 abbrev from_to : ℤ → ℤ → KeyBounds
 from_to least greatest = record { least = record { 0 = least }; greatest = record { 0 = greatest } }
@@ -95,3 +113,20 @@ below_six = refl
 
 not_below_five : its_row Less (pos 5) ≡ false
 not_below_five = refl
+
+-- of the numbers in the column n
+abbrev n_below_six : Cond
+n_below_six = Compared (codes "n") Less (Number (Fits (pos 6)))
+
+five_is_allowed : allows_number (codes "n") (pos 5) n_below_six ≡ true
+five_is_allowed = refl
+
+six_is_not : allows_number (codes "n") (pos 6) n_below_six ≡ false
+six_is_not = refl
+
+six_of_another_column : allows_number (codes "id") (pos 6) n_below_six ≡ true
+six_of_another_column = refl
+
+-- a list bounds them by its least and its greatest, between which are numbers that aren't in it
+between_those_of_a_list : allows_but_list (codes "n") (pos 5) (OneOf (codes "n") (Number (Fits (pos 3)) ∷ Number (Fits (pos 7)) ∷ [])) ≡ true
+between_those_of_a_list = refl

@@ -3,25 +3,25 @@
 ghost use Rattle.std.specs.Prelude.{◌≡◌, ◌≤ℤ◌, ◌⊎◌, ◌↔◌, ℤ, true};
 ghost use Rattle.std.specs.List.{list_any};
 ghost use Rattle.ct_base.specs.declared.lists.Value.TheVariants.{Number as NumberValue};
-ghost use Rattle.ct_entry.specs.Keys.{IsRow};
+ghost use Rattle.ct_entry.specs.Keys.{IsRow, same_list};
 ghost use Rattle.ct_entry.specs.Listings.{number_of};
 ghost use Rattle.ct_entry.specs.laws.Rows.{IsPlace};
 ghost use Rattle.st_parse.specs.declared.statements.Compare.TheVariants as compare;
 ghost use Rattle.db_cond.specs.Conditions.{compares};
 ghost use Rattle.db_rows.specs.Sources.{is_key_source, source_of as source_of_column};
 ghost use Rattle.db_rows.specs.Checking.{cond_column as column_of_cond};
-ghost use Rattle.db_rows.specs.Bounds.{AreBoundsOf, AreTight, BoundRows, BoundKeys, HoldsWithin, IsWithinBounds};
+ghost use Rattle.db_rows.specs.Bounds.{AreBoundsOf, AreTight, AreTightNumbers, BoundRows, BoundKeys, BoundNumbers, HoldsWithin, IsWithinBounds};
 ghost use Rattle.db_rows.specs.Walking.{IsStart};
 
 use crate::checking::cond_column;
 use crate::sources::{Source, source_of};
-use ct_base::RowKey;
+use ct_base::{Name, RowKey};
 use st_parse::{Compare, Cond, Operand, Whole};
 use tb_table::Column;
 
-/// Row keys from the one to the other, both included; none where the first is the greater.
+/// Row keys, or other numbers of 64 bits, from the one to the other, both included; none where the first is the greater.
 #[derive(Clone, Copy)]
-pub(crate) struct KeyBounds {
+pub struct KeyBounds {
     pub least: RowKey,
     pub greatest: RowKey,
 }
@@ -164,6 +164,28 @@ pub(crate) fn key_bounds(conds: &[Cond], columns: &[Column]) -> KeyBounds
     let mut bounds = KeyBounds::ALL;
     for cond in conds {
         if is_on_key(cond, columns) {
+            bounds = overlap(bounds, cond_bounds(cond));
+        }
+    }
+    bounds
+}
+
+/// Whether the condition is on the column with this name.
+pub fn is_on(cond: &Cond, name: &Name) -> bool
+    ensures { result ≡ same_list (column_of_cond cond.now) name.now }
+{
+    cond_column(cond).as_str() == name.as_str()
+}
+
+/// Bounds of the numbers that a column with this name has in the rows that meet all conditions: those of the conditions on it, all
+/// together, and all numbers where none is on it. Its cost is the number of conditions and of their operands.
+pub fn column_bounds(conds: &[Cond], name: &Name) -> KeyBounds
+    ensures bound { BoundNumbers name.now conds.now result }
+    ensures tight { AreTightNumbers name.now conds.now result }
+{
+    let mut bounds = KeyBounds::ALL;
+    for cond in conds {
+        if is_on(cond, name) {
             bounds = overlap(bounds, cond_bounds(cond));
         }
     }

@@ -8,6 +8,7 @@ mod reading;
 mod sources;
 mod walking;
 
+pub use bounds::{KeyBounds, column_bounds, is_on};
 pub use checking::{
     cond_column, conds_fault, fit_columns, fits_cond, has_beyond, sort_of, unknown_column,
 };

@@ -74,7 +74,7 @@ module _ {X : Type 0} (p q : X → Bool) (weaker : (x : X) → p x ≡ true → 
       go false true one rest = omega (arith, rest)
       go false false one rest = rest
 
-most_pass : {X : Type 0} (p : X → Bool) (xs : List X) → length (filter p xs) ≤ length xs
+pub most_pass : {X : Type 0} (p : X → Bool) (xs : List X) → length (filter p xs) ≤ length xs
 most_pass p [] = omega arith
 most_pass p (x ∷ xs) = go (p x) (most_pass p xs)
   where

@@ -5,7 +5,7 @@ use Rattle.std.specs.List.{list_all}
 use Rattle.std.proofs.lemmas.List.{take_all}
 use Rattle.st_parse.specs.declared.statements.Cond.{Cond}
 use Rattle.db_rows.specs.Bounds.{allows_key, IsWithinBounds}
-use Rattle.db_rows.proofs.BoundSteps.{tight_more, allowed_here, allowed_elsewhere}
+use Rattle.db_rows.proofs.BoundSteps.{passes_more, allowed_here, allowed_elsewhere}
 use Rattle.db_rows.specs.declared.bounds.KeyBounds.{KeyBounds}
 use Rattle.db_rows.proofs.MeetSteps.{key_met}
 use Rattle.db_rows.proofs.bounds.key_bounds.Goals as goal
@@ -31,10 +31,10 @@ loop-cond-preserved c =
           elim c.if-is_on_key.branch [
             | then-is_on_key w ↦
                 let both = (w.overlap-bounds.ensures r).0 (subst (λ (b : KeyBounds). IsWithinBounds b r) w.bounds-is within) in
-                tight_more columns conds i item r (c.loop-cond.invariant.tight r row both.0) c.loop-cond-test.true c.cond-item.is (allowed_here columns item r (λ range. w.cond_bounds.ensures.tight range r row both.1))
+                passes_more (allows_key columns r) conds i item (c.loop-cond.invariant.tight r row both.0) c.loop-cond-test.true c.cond-item.is (allowed_here columns item r (λ range. w.cond_bounds.ensures.tight range r row both.1))
             | else-is_on_key w ↦
                 let other : is_key_source (source_of (cond_column item) columns) ≡ false = sym c.is_on_key.ensures ∙ w.if-is_on_key.false in
-                tight_more columns conds i item r (c.loop-cond.invariant.tight r row (subst (λ (b : KeyBounds). IsWithinBounds b r) w.bounds-is within)) c.loop-cond-test.true c.cond-item.is (allowed_elsewhere columns item r other)
+                passes_more (allows_key columns r) conds i item (c.loop-cond.invariant.tight r row (subst (λ (b : KeyBounds). IsWithinBounds b r) w.bounds-is within)) c.loop-cond-test.true c.cond-item.is (allowed_elsewhere columns item r other)
           ];
     }
 
