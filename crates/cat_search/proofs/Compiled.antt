@@ -1,8 +1,8 @@
 -- Walks for the slots, phrases and terms of a query.
-use Rattle.std.proofs.Common.{ℕ, ℤ, ◌≡◌, ◌≤◌, ◌-◌, inl, inr, nat_le, Bool, true, false, not, ◌&&◌, ◌||◌, List, [], ◌∷◌, length, take, drop, get_or, bytes_eq, refl, sym, ap, subst, ◌∙◌, arith}
+use Rattle.std.proofs.Common.{ℕ, ℤ, ◌≡◌, ◌≤◌, ◌<◌, ◌-◌, inl, inr, nat_le, Bool, true, false, not, ◌&&◌, ◌||◌, List, [], ◌∷◌, length, take, drop, get_or, bytes_eq, refl, sym, ap, subst, ◌∙◌, arith}
 use Rattle.std.specs.List.{list_any, list_all}
 use Rattle.std.specs.Str.{IsUtf8}
-use Rattle.std.proofs.lemmas.Bool.{and_parts, or_cases, or_right}
+use Rattle.std.proofs.lemmas.Bool.{and_parts, or_cases, or_left, or_right}
 use Rattle.std.proofs.lemmas.List.{take_all}
 use Rattle.std.proofs.lemmas.Slice.Eq.{bytes_eq-Decides}
 use Rattle.ct_base.specs.laws.Bools.{same_tests, or_false, and_assoc}
@@ -20,11 +20,12 @@ use Rattle.q_tree.specs.declared.queries.Op.TheVariants.{Or, And, Not}
 use Rattle.q_tree.specs.Soundness.{is_slot, takes_some, ends_well, is_phrase, is_term, is_sound}
 use Rattle.q_tree.specs.ReducedQueries.{Reduced, Both as QueryBoth, reduced_of}
 use Rattle.cat_walk.specs.Places.{has_place, is_listed}
-use Rattle.cat_walk.specs.Walks.{Route, Word, Places, Both, Either, StopsAlike, Without, stops_at}
-use Rattle.cat_walk.specs.Gathering.{ArePlacesOf}
-use Rattle.cat_search.specs.Queries.{is_plain}
+use Rattle.cat_walk.specs.Walks.{AddsStops, Route, Word, Places, Both, StopsAlike, Without, stops_at}
+use Rattle.cat_walk.specs.Gathering.{AddsPlaces, ArePlacesOf, HasWordAt}
+use Rattle.cat_walk.specs.laws.Listed.{in_listed, listed_in}
+use Rattle.cat_search.specs.Queries.{is_boolean}
 use Rattle.cat_search.specs.Words.{all_taken, may_take, phrase_may, may_meet}
-use Rattle.cat_search.specs.Walking.{StopsWhere, StopsSoFar, JoinsTest, JoinsSlot, IsWalkFor}
+use Rattle.cat_search.specs.Walking.{GathersRows, StopsWhere, StopsSoFar, JoinsTest, JoinsSlot, IsPlaceOf, IsWalkFor}
 use Rattle.cat_search.proofs.Bools.{and_true}
 
 -- ---- slots
@@ -107,20 +108,6 @@ module _ (m : Content) (stem : List ℕ) where
         only = λ place h. inl (and_parts (stops_at (has_place m stem) old place) (stops_at (has_place m stem) other place) h).0;
       })
 
-  pub either_joins : (test : List (List ℕ) → Bool) (place_of : ℤ → List ℕ) (words : ℤ → List (List ℕ)) (old other new : Route) → StopsWhere (has_place m stem) place_of words test other → StopsAlike (has_place m stem) (Either old other) new
-      → JoinsTest (◌||◌) (has_place m stem) place_of words test old new
-  either_joins test place_of words old other new w alike = record {
-    rows = λ r row. alike.at (place_of r) ∙ ap (λ (t : Bool). stops_at (has_place m stem) old (place_of r) || t) (w.rows r row);
-    only = λ place h.
-        elim (or_cases (stops_at (has_place m stem) old place) (stops_at (has_place m stem) other place) (sym (alike.at place) ∙ h)) [ inl one ↦ inl one | inr two ↦ inr (w.only place two) ];
-  }
-
--- settled walks, of which one has to stop, stop where those do of which they were made
-pub either_alike : (has : List ℕ → List ℕ → Bool) (a b x y new : Route) → StopsAlike has a x → StopsAlike has b y → new ≡ Either x y → StopsAlike has (Either a b) new
-either_alike has a b x y new first second is = subst (StopsAlike has (Either a b)) (sym is) (record {
-  at = λ place. ap (λ (t : Bool). t || stops_at has y place) (first.at place) ∙ ap (λ (t : Bool). stops_at has a place || t) (second.at place);
-})
-
 or_assoc : (a b c : Bool) → (a || (b || c)) ≡ ((a || b) || c)
 or_assoc true b c = refl
 or_assoc false b c = refl
@@ -158,6 +145,12 @@ with_first (slot ∷ later) first some is =
     let whole : take (length (slot ∷ later) - 1) later ≡ later = take_all (length (slot ∷ later) - 1) later (omega arith) in
     ap (λ (s : Slot). s ∷ later) (sym is) ∙ ap (λ (l : List Slot). first ∷ l) (sym whole)
 
+-- the only one of a list, as a pattern has it
+pub only_one : {X : Type 0} (xs : List X) (x : X) → 1 ≤ length xs → length xs ≤ 1 → x ≡ get_or xs 0 x → xs ≡ x ∷ []
+only_one [] x some few is = absurd (omega (arith, some))
+only_one {X = X} (y ∷ []) x some few is = ap (λ (z : X). z ∷ []) (sym is)
+only_one (y ∷ z ∷ xs) x some few is = absurd (omega (arith, few))
+
 pub later_slots : (first : Slot) (later : List Slot) → is_phrase (first ∷ later) ≡ true → list_all is_slot later ≡ true
 later_slots first later sound =
     let all = (and_parts (takes_some first && ends_well (first ∷ later)) (list_all is_slot (first ∷ later)) sound).1 in
@@ -181,25 +174,6 @@ module _ (has : List ℕ → List ℕ → Bool) (place_of : ℤ → List ℕ) (w
   phrase_ends rest phrase route none so_far =
       joined_ends (◌&&◌) and_assoc has place_of words (λ ws. all_taken ws rest) (λ ws. phrase_may ws phrase) route (λ a ws. ap (λ (l : List Slot). a && all_taken ws l) none ∙ and_true a) so_far
 
-  pub term_begins : (first : List Slot) (rest phrases : List (List Slot)) (route : Route) → phrases ≡ first ∷ rest → StopsWhere has place_of words (λ ws. phrase_may ws first) route
-      → StopsSoFar (◌||◌) has place_of words (λ ws. list_any (phrase_may ws) rest) (λ ws. list_any (phrase_may ws) phrases) route
-  term_begins first rest phrases route is stops =
-      subst (λ (l : List (List Slot)). StopsSoFar (◌||◌) has place_of words (λ ws. list_any (phrase_may ws) rest) (λ ws. list_any (phrase_may ws) l) route) (sym is)
-      (joined_begins (◌||◌) or_assoc has place_of words (λ ws. phrase_may ws first) (λ ws. list_any (phrase_may ws) rest) (λ ws. list_any (phrase_may ws) (first ∷ rest)) route (λ ws. refl) stops)
-
-  pub term_on : (phrase : List Slot) (rest others phrases : List (List Slot)) (old new : Route) → rest ≡ phrase ∷ others
-      → StopsSoFar (◌||◌) has place_of words (λ ws. list_any (phrase_may ws) rest) (λ ws. list_any (phrase_may ws) phrases) old → JoinsTest (◌||◌) has place_of words (λ ws. phrase_may ws phrase) old new
-      → StopsSoFar (◌||◌) has place_of words (λ ws. list_any (phrase_may ws) others) (λ ws. list_any (phrase_may ws) phrases) new
-  term_on phrase rest others phrases old new is so_far joins =
-      joined_on (◌||◌) or_assoc has place_of words (λ ws. phrase_may ws phrase) (λ ws. list_any (phrase_may ws) rest) (λ ws. list_any (phrase_may ws) others) (λ ws. list_any (phrase_may ws) phrases) old new
-      (λ ws. sym (ap (list_any (phrase_may ws)) is)) so_far joins
-
-  pub term_ends : (rest phrases : List (List Slot)) (route : Route) → rest ≡ [] → StopsSoFar (◌||◌) has place_of words (λ ws. list_any (phrase_may ws) rest) (λ ws. list_any (phrase_may ws) phrases) route
-      → StopsWhere has place_of words (λ ws. list_any (phrase_may ws) phrases) route
-  term_ends rest phrases route none so_far =
-      joined_ends (◌||◌) or_assoc has place_of words (λ ws. list_any (phrase_may ws) rest) (λ ws. list_any (phrase_may ws) phrases) route
-      (λ a ws. ap (λ (l : List (List Slot)). a || list_any (phrase_may ws) l) none ∙ or_false a) so_far
-
 -- what a sound phrase begins with, and what is behind it
 pub record IsPhraseOf (first : Slot) (rest : List Slot) : Type 0 where
   pub some : takes_some first ≡ true
@@ -219,19 +193,117 @@ all_parts test first rest all is pass = and_parts (test first) (list_all test re
 pub term_parts : (phrases : List (List Slot)) → is_term phrases ≡ true → list_all is_phrase phrases ≡ true
 term_parts phrases sound = (and_parts (nat_le 1 (length phrases)) (list_all is_phrase phrases) sound).1
 
+-- ---- places gathered one after another
+
+module _ (m : Content) (stem : List ℕ) where
+  pub adds_as : (f g : List (List ℕ) → Bool) (old new : List (List ℕ)) → ((ws : List (List ℕ)) → g ws ≡ f ws) → GathersRows m stem f old new → GathersRows m stem g old new
+  adds_as f g old new same adds place_of words are =
+      let a = adds place_of words are in
+      record { rows = λ r row. a.rows r row ∙ ap (λ (t : Bool). is_listed old (place_of r) || t) (sym (same (words r))); only = a.only }
+
+  pub adds_none : (ps : List (List ℕ)) → GathersRows m stem (λ ws. false) ps ps
+  adds_none ps place_of words are = record { rows = λ r row. sym (or_false (is_listed ps (place_of r))); only = λ place h. inl h }
+
+  pub adds_then : (f g : List (List ℕ) → Bool) (old mid new : List (List ℕ)) → GathersRows m stem f old mid → GathersRows m stem g mid new → GathersRows m stem (λ ws. f ws || g ws) old new
+  adds_then f g old mid new first second place_of words are =
+      let a = first place_of words are in
+      let b = second place_of words are in
+      record {
+        rows = λ r row. b.rows r row ∙ ap (λ (t : Bool). t || g (words r)) (a.rows r row) ∙ sym (or_assoc (is_listed old (place_of r)) (f (words r)) (g (words r)));
+        only = λ place h. elim (b.only place h) [ inl before ↦ a.only place before | inr row ↦ inr row ];
+      }
+
+  -- of one slot
+  pub slot_adds : (slot : Slot) (old new : List (List ℕ)) → takes_some slot ≡ true → AddsPlaces m stem (λ word. takes slot word) old new → GathersRows m stem (λ ws. may_take ws slot) old new
+  slot_adds Any old new some adds place_of words are = cc
+  slot_adds (Takes keys patterns) old new some adds place_of words are = record {
+    rows = λ r row. same_tests (is_listed new (place_of r)) (is_listed old (place_of r) || list_any (takes slot) (words r)) (from r row) (to r row);
+    only = λ place h. elim ((adds.each place).0 (in_listed new place h)) [ inl before ↦ inl (listed_in old place before) | inr w ↦ inr (are.only w.word place w.at) ];
+  }
+    where
+      slot : Slot
+      slot = Takes keys patterns
+
+      from : (r : ℤ) → IsRow r → is_listed new (place_of r) ≡ true → (is_listed old (place_of r) || list_any (takes slot) (words r)) ≡ true
+      from r row h = elim ((adds.each (place_of r)).0 (in_listed new (place_of r) h)) [
+        | inl before ↦ or_left (is_listed old (place_of r)) (list_any (takes slot) (words r)) (listed_in old (place_of r) before)
+        | inr w ↦
+            or_right (is_listed old (place_of r)) (list_any (takes slot) (words r)) (among_passes (takes slot) w.word (words r) w.takes (sym (are.rows r row w.word) ∙ w.at))
+      ]
+
+      of_word : (r : ℤ) → IsRow r → list_any (takes slot) (words r) ≡ true → HasWordAt m stem (takes slot) (place_of r)
+      of_word r row h =
+          let w = some_word (takes slot) (words r) (are.tokens r row) (are.texts r row) h in
+          record { some = are.some r; word = w.word; token = w.token; text = w.text; takes = w.passes; at = are.rows r row w.word ∙ w.among }
+
+      to : (r : ℤ) → IsRow r → (is_listed old (place_of r) || list_any (takes slot) (words r)) ≡ true → is_listed new (place_of r) ≡ true
+      to r row h = elim (or_cases (is_listed old (place_of r)) (list_any (takes slot) (words r)) h) [
+        | inl before ↦ listed_in new (place_of r) ((adds.each (place_of r)).1 (inl (in_listed old (place_of r) before)))
+        | inr passes ↦ listed_in new (place_of r) ((adds.each (place_of r)).1 (inr (of_word r row passes)))
+      ]
+
+  -- a query is what it is equal to
+  pub gathers_as : (q p : Reduced) (old new : List (List ℕ)) → q ≡ p → GathersRows m stem (may_meet p) old new → GathersRows m stem (may_meet q) old new
+  gathers_as q p old new is adds = subst (λ (f : Reduced). GathersRows m stem (may_meet f) old new) (sym is) adds
+
+  -- of a phrase that has no other slot
+  pub single_adds : (slot : Slot) (phrase : List Slot) (old new : List (List ℕ)) → phrase ≡ slot ∷ [] → is_phrase phrase ≡ true → AddsPlaces m stem (λ word. takes slot word) old new
+      → GathersRows m stem (λ ws. phrase_may ws phrase) old new
+  single_adds slot phrase old new is sound adds =
+      adds_as (λ ws. may_take ws slot) (λ ws. phrase_may ws phrase) old new (λ ws. ap (phrase_may ws) is ∙ and_true (may_take ws slot))
+      (slot_adds slot old new (phrase_parts slot [] phrase is sound).some adds)
+
+  -- of a walk
+  pub stops_add : (test : List (List ℕ) → Bool) (route : Route) (old new : List (List ℕ)) → IsWalkFor m stem test route → AddsStops (has_place m stem) route old new → GathersRows m stem test old new
+  stops_add test route old new walk adds place_of words are =
+      let w = walk place_of words are in
+      record {
+        rows = λ r row. adds.each (place_of r) ∙ ap (λ (t : Bool). is_listed old (place_of r) || t) (w.rows r row);
+        only = λ place h. elim (or_cases (is_listed old place) (stops_at (has_place m stem) route place) (sym (adds.each place) ∙ h)) [ inl before ↦ inl before | inr here ↦ inr (w.only place here) ];
+      }
+
+  -- of the phrases of a term
+  pub phrases_end : (rest : List (List Slot)) (ps : List (List ℕ)) → length rest < 1 → GathersRows m stem (λ ws. list_any (phrase_may ws) rest) ps ps
+  phrases_end [] ps few = adds_none ps
+  phrases_end (p ∷ rest) ps few = absurd (omega (arith, few))
+
+  pub phrases_on : (phrase : List Slot) (rest others : List (List Slot)) (now mid new : List (List ℕ)) → rest ≡ phrase ∷ others → GathersRows m stem (λ ws. phrase_may ws phrase) now mid
+      → GathersRows m stem (λ ws. list_any (phrase_may ws) others) mid new → GathersRows m stem (λ ws. list_any (phrase_may ws) rest) now new
+  phrases_on phrase rest others now mid new is first second =
+      adds_as (λ ws. phrase_may ws phrase || list_any (phrase_may ws) others) (λ ws. list_any (phrase_may ws) rest) now new (λ ws. ap (list_any (phrase_may ws)) is)
+      (adds_then (λ ws. phrase_may ws phrase) (λ ws. list_any (phrase_may ws) others) now mid new first second)
+
+  -- a term of one phrase
+  pub single_walk : (phrase : List Slot) (phrases : List (List Slot)) (route : Route) → phrases ≡ phrase ∷ [] → IsWalkFor m stem (λ ws. phrase_may ws phrase) route → IsWalkFor m stem (λ ws. list_any (phrase_may ws) phrases) route
+  single_walk phrase phrases route is walk place_of words are =
+      let w = walk place_of words are in
+      record { rows = λ r row. w.rows r row ∙ sym (ap (list_any (phrase_may (words r))) is ∙ or_false (phrase_may (words r) phrase)); only = w.only }
+
+  -- all that was gathered, as a walk
+  pub gathered_walk : (test : List (List ℕ) → Bool) (first gathered : List (List ℕ)) (route : Route) → first ≡ [] → GathersRows m stem test first gathered → StopsAlike (has_place m stem) (Places gathered) route → IsWalkFor m stem test route
+  gathered_walk test first gathered route none adds alike place_of words are =
+      let a = subst (λ (ps : List (List ℕ)). JoinsTest (◌||◌) (has_place m stem) place_of words test (Places ps) (Places gathered)) none (adds place_of words are) in
+      record {
+        rows = λ r row. alike.at (place_of r) ∙ a.rows r row;
+        only = λ place h. elim (a.only place (sym (alike.at place) ∙ h)) [ inl before ↦ no_way place before | inr row ↦ row ];
+      }
+    where
+      no_way : (place : List ℕ) → false ≡ true → IsPlaceOf place_of place
+      no_way place e = cc
+
 -- ---- the arms of a query
 
 pub sound_parts : (op : Op) (q a b : Reduced) → q ≡ QueryBoth op a b → is_sound q ≡ true → (is_sound a ≡ true) × (is_sound b ≡ true)
 sound_parts op q a b is sound = and_parts (is_sound a) (is_sound b) (sym (ap is_sound is) ∙ sound)
 
-pub and_plain : (q a b : Reduced) → q ≡ QueryBoth And a b → is_plain q ≡ true → (is_plain a ≡ true) × (is_plain b ≡ true)
-and_plain q a b is plain = and_parts (is_plain a) (is_plain b) (sym (ap is_plain is) ∙ plain)
+pub and_boolean : (q a b : Reduced) → q ≡ QueryBoth And a b → is_boolean q ≡ true → (is_boolean a ≡ true) × (is_boolean b ≡ true)
+and_boolean q a b is boolean = and_parts (is_boolean a) (is_boolean b) (sym (ap is_boolean is) ∙ boolean)
 
-pub or_plain : (q a b : Reduced) → q ≡ QueryBoth Or a b → is_plain q ≡ true → (is_plain a ≡ true) × (is_plain b ≡ true)
-or_plain q a b is plain = and_parts (is_plain a) (is_plain b) (sym (ap is_plain is) ∙ plain)
+pub or_boolean : (q a b : Reduced) → q ≡ QueryBoth Or a b → is_boolean q ≡ true → (is_boolean a ≡ true) × (is_boolean b ≡ true)
+or_boolean q a b is boolean = and_parts (is_boolean a) (is_boolean b) (sym (ap is_boolean is) ∙ boolean)
 
-pub not_plain : (q a b : Reduced) → q ≡ QueryBoth Not a b → is_plain q ≡ true → (is_plain a ≡ true) × (is_plain b ≡ true)
-not_plain q a b is plain = and_parts (is_plain a) (is_plain b) (sym (ap is_plain is) ∙ plain)
+pub not_boolean : (q a b : Reduced) → q ≡ QueryBoth Not a b → is_boolean q ≡ true → (is_boolean a ≡ true) × (is_boolean b ≡ true)
+not_boolean q a b is boolean = and_parts (is_boolean a) (is_boolean b) (sym (ap is_boolean is) ∙ boolean)
 
 -- the parts as they were read out of their boxes
 pub parts_are : (op : Op) (q : Reduced) (a b x y : Flat) → q ≡ QueryBoth op (reduced_of a) (reduced_of b) → x ≡ a → y ≡ b → q ≡ QueryBoth op (reduced_of x) (reduced_of y)
@@ -253,15 +325,6 @@ module _ (m : Content) (stem : List ℕ) (f g : List (List ℕ) → Bool) (a b :
         rows = λ r row. ap (λ (t : Bool). t && stops_at has b (place_of r)) (p.rows r row) ∙ ap (λ (t : Bool). f (words r) && t) (q.rows r row);
         only = λ place h. p.only place (and_parts (stops_at has a place) (stops_at has b place) h).0;
       })
-
-  pub either_walk : (route : Route) → StopsAlike has (Either a b) route → IsWalkFor m stem (λ ws. f ws || g ws) route
-  either_walk route alike place_of words are =
-      let p = first place_of words are in
-      let q = second place_of words are in
-      record {
-        rows = λ r row. alike.at (place_of r) ∙ ap (λ (t : Bool). t || stops_at has b (place_of r)) (p.rows r row) ∙ ap (λ (t : Bool). f (words r) || t) (q.rows r row);
-        only = λ place h. elim (or_cases (stops_at has a place) (stops_at has b place) (sym (alike.at place) ∙ h)) [ inl one ↦ p.only place one | inr two ↦ q.only place two ];
-      }
 
   pub without_walk : (exact : Bool) (route : Route) → exact ≡ true → route ≡ Without a b → IsWalkFor m stem (λ ws. f ws && not (exact && g ws)) route
   without_walk exact route told is place_of words are =

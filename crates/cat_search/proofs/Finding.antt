@@ -32,7 +32,7 @@ use Rattle.cat_index.specs.Catalogues.{CatalogueBody, filing_in}
 use Rattle.cat_walk.specs.Places.{IsFirstAfter, comes_before}
 use Rattle.cat_walk.specs.Walks.{Route, stops_at}
 use Rattle.cat_walk.specs.laws.Orders.{before_then, place_itself, same_place}
-use Rattle.cat_search.specs.Queries.{is_plain}
+use Rattle.cat_search.specs.Queries.{is_boolean}
 use Rattle.cat_search.specs.Meeting.{row_words, some_meets, row_meets, met_rows}
 use Rattle.cat_search.specs.SubIndexes.{values_in, sub_place, place_row, taken_rows, is_row_among, IsNextWithin}
 use Rattle.cat_search.specs.Words.{is_exact, may_meet, has_slot_word}
@@ -84,7 +84,7 @@ each_row t is = go (entries t.rows) (all_keys int_cmp int_cmp_total IsRow t.rows
     go [] all = tt
     go (e ∷ es) all = (all.0, go es all.1)
 
-module _ (t : Table) (x : IndexOf CatalogueBody) (q : Reduced) (is_table : IsTable t) (prefs : IsPrefs x.prefs) (plain : is_plain q ≡ true) (sound : is_sound q ≡ true) where
+module _ (t : Table) (x : IndexOf CatalogueBody) (q : Reduced) (is_table : IsTable t) (prefs : IsPrefs x.prefs) (boolean : is_boolean q ≡ true) (sound : is_sound q ≡ true) where
   abbrev test : ℤ → Bool
   test r = row_meets t x q r
 
@@ -94,7 +94,7 @@ module _ (t : Table) (x : IndexOf CatalogueBody) (q : Reduced) (is_table : IsTab
     where
       go : (o : Option (List ℕ)) → IsShortOrNone o → some_meets x.prefs q o ≡ true → may_meet q (text_words x.prefs o) ≡ true
       go None short h = cc
-      go (Some text) short h = words_rule_out x.prefs text q prefs (omega (arith, short)) plain sound h
+      go (Some text) short h = words_rule_out x.prefs text q prefs (omega (arith, short)) boolean sound h
 
   -- one whose words have one for a slot is there
   slot_there : (r : ℤ) → has_slot_key t x q r ≡ true → list_any (eq_by_cmp int_cmp r) (row_keys_of t) ≡ true
@@ -113,7 +113,7 @@ module _ (t : Table) (x : IndexOf CatalogueBody) (q : Reduced) (is_table : IsTab
     where
       go : (o : Option (List ℕ)) → IsShortOrNone o → may_meet q (text_words x.prefs o) ≡ true → some_meets x.prefs q o ≡ true
       go None short h = let wrong : false ≡ true = sym (no_words q) ∙ may_has_slot [] q sound h in cc
-      go (Some text) short h = words_tell x.prefs text q prefs (omega (arith, short)) plain sound exact ∙ h
+      go (Some text) short h = words_tell x.prefs text q prefs (omega (arith, short)) boolean sound exact ∙ h
 
   -- rows are found along a sub-index, by the places that are taken there
   module _ (sub : ℕ) (taken : List ℕ → Bool) where

@@ -22,7 +22,7 @@ use Rattle.cat_index.specs.Catalogues.{CatalogueBody}
 use Rattle.cat_walk.specs.Places.{IsFirstAfter, IsNext, comes_before, has_place, next_of}
 use Rattle.cat_walk.specs.Walks.{Route, stops_at}
 use Rattle.cat_walk.specs.Looks.{IsOfCatalogue, SameTexts}
-use Rattle.cat_search.specs.Queries.{is_plain}
+use Rattle.cat_search.specs.Queries.{is_boolean}
 use Rattle.cat_search.specs.Meeting.{row_words, row_meets, some_meets}
 use Rattle.cat_search.specs.SubIndexes.{sub_place, place_row, HasSub, taken_rows, is_row_among, IsNextWithin}
 use Rattle.cat_search.specs.Words.{is_exact, may_meet}
@@ -66,7 +66,7 @@ module _ (taken test : List ℕ → Bool) (after : List ℕ) (found : Option (Ve
 -- ---- one step
 
 module _ (m : Content) (ts : Tables) (i : List ℕ) (x : IndexOf CatalogueBody) (c : Catalogue) (q : Reduced) (holds : HoldsCatalogue m ts i x) (is : IsIndexOf c x)
-    (plain : is_plain q ≡ true) (sound : is_sound q ≡ true) (sub : ℕ) (taken : List ℕ → Bool) (has : List ℕ → List ℕ → Bool) (route : Route)
+    (boolean : is_boolean q ≡ true) (sound : is_sound q ≡ true) (sub : ℕ) (taken : List ℕ → Bool) (has : List ℕ → List ℕ → Bool) (route : Route)
     (stops : StopsWhere has (sub_place (table_at ts x.table) x sub) (row_words (table_at ts x.table) x) (may_meet q) route) (exact : Bool) (exact_is : exact ≡ is_exact q) where
   abbrev t : Table
   t = table_at ts x.table
@@ -86,19 +86,19 @@ module _ (m : Content) (ts : Tables) (i : List ℕ) (x : IndexOf CatalogueBody) 
 
   pub rows_begin : (first last : List ℕ) (rows : List ℤ) → last ≡ first → rows ≡ [] → ((place : List ℕ) → 1 ≤ length place → taken place ≡ true → comes_before first place ≡ true)
       → AreFoundTo found (sub_place t x sub) last rows
-  rows_begin first last rows same none bound = found_begins t x q rules holds.prefs plain sound sub taken first last rows same none bound
+  rows_begin first last rows same none bound = found_begins t x q rules holds.prefs boolean sound sub taken first last rows same none bound
 
   pub rows_on : (last here place : List ℕ) (rows more : List ℤ) → place ≡ here → AreFoundTo found (sub_place t x sub) last rows → IsFirstAfter (stops_at has route) last here
       → more ≡ rows ++ cond (taken place) (row_if (is_met_row exact c q ts) (place_row place)) [] → AreFoundTo found (sub_place t x sub) here more
   rows_on last here place rows more same so_far next pushed =
-      found_on t x q rules holds.prefs plain sound sub taken has route stops last here rows more exact exact_is so_far next
+      found_on t x q rules holds.prefs boolean sound sub taken has route stops last here rows more exact exact_is so_far next
       (pushed
       ∙ ap (λ (p : List ℕ). rows ++ cond (taken p) (row_if (is_met_row exact c q ts) (place_row p)) []) same
       ∙ ap (λ (l : List ℤ). rows ++ cond (taken here) l []) (same_test (place_row here)))
 
   pub rows_end : (last : List ℕ) (rows sorted : List ℤ) → AreFoundTo found (sub_place t x sub) last rows → IsNextWithin taken (stops_at has route) last None → keys_rise_by int_cmp sorted ≡ true
       → ((r : ℤ) → is_row_among r sorted ≡ is_row_among r rows) → sorted ≡ found
-  rows_end last rows sorted so_far none rise same = all_found t x q rules holds.prefs plain sound sub taken has route stops last rows sorted so_far none rise same
+  rows_end last rows sorted so_far none rise same = all_found t x q rules holds.prefs boolean sound sub taken has route stops last rows sorted so_far none rise same
 
   abbrev rest_of : List ℕ → ℕ
   rest_of last = length (left t x sub q last)
@@ -112,7 +112,7 @@ module _ (m : Content) (ts : Tables) (i : List ℕ) (x : IndexOf CatalogueBody) 
   pub texts_on : (last here : List ℕ) (old now mid new : Counts) → ReadSoFar exact (rest_of last) all_rows old now → IsFirstAfter (stops_at has route) last here
       → SameTexts now mid → ReadsTexts (cond exact 0 1) mid new → ReadSoFar exact (rest_of here) all_rows old new
   texts_on last here old now mid new so_far next same reads =
-      read_on exact (rest_of last) (rest_of here) all_rows old now mid new so_far same reads (fewer_left t x q rules holds.prefs plain sound sub taken has route stops last here next)
+      read_on exact (rest_of last) (rest_of here) all_rows old now mid new so_far same reads (fewer_left t x q rules holds.prefs boolean sound sub taken has route stops last here next)
 
   as_rows : (old new : Counts) → ReadsTexts (cond exact 0 all_rows) old new → ReadsTexts (slot_rows t x q) old new
   as_rows old new reads = subst (λ (b : Bool). ReadsTexts (cond b 0 all_rows) old new) exact_is reads

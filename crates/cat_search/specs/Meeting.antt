@@ -8,17 +8,26 @@ use Rattle.ucd_category.proofs.Computing.{ucd_category}
 use Rattle.caseless.proofs.Computing.{caseless}
 use Rattle.tx_chars.specs.Keys.{key_text}
 use Rattle.tx_settings.specs.declared.preferences.Prefs.{Prefs}
+use Rattle.tx_settings.specs.Attributes.{can_be_set}
+use Rattle.tx_settings.specs.laws.Settable.{defaults_can_be_set}
 use Rattle.tx_settings.specs.Defaults.{default_prefs}
 use Rattle.tb_table.specs.Tables.{Table}
 use Rattle.q_tree.specs.declared.queries.Op.TheVariants.{Not}
 use Rattle.q_tree.specs.ReducedQueries.{Reduced, Both}
+use Rattle.q_tree.specs.Soundness.{is_sound}
 use Rattle.ix_kinds.specs.Rows.{row_keys_of}
 use Rattle.ix_kinds.specs.Indextypes.{IndexOf}
 use Rattle.ix_context.specs.Indexes.{texts_in}
 use Rattle.ix_search.specs.Texts.{scanned_postings}
 use Rattle.cat_index.specs.Filings.{text_words}
 use Rattle.cat_index.specs.Catalogues.{CatalogueBody, docs_catalogue}
-use Rattle.cat_search.specs.Queries.{holds, key_term, red_hat}
+use Rattle.cat_search.specs.Queries.{holds, is_boolean, key_term, red_hat}
+
+-- THE QUERY IS ONE FOR TEXTS that are read with these preferences: the preferences can be set, and it is sound, and has terms, AND, OR and NOT alone.
+pub record IsQueryFor (p : Prefs) (q : Reduced) : Type 0 where
+  pub set : can_be_set p.lexer ≡ true
+  pub sound : is_sound q ≡ true
+  pub boolean : is_boolean q ≡ true
 
 -- ---- texts and rows
 
@@ -43,6 +52,10 @@ abbrev pub met_rows : Table → IndexOf CatalogueBody → Reduced → List ℤ
 met_rows t x q = filter (row_meets t x q) (row_keys_of t)
 
 -- ---- computed examples
+
+-- the phrase `red hat` for texts that are read with the first preferences
+a_query : IsQueryFor default_prefs red_hat
+a_query = record { set = defaults_can_be_set; sound = refl; boolean = refl }
 
 the_phrase : meets default_prefs red_hat (codes "A red hat") ≡ true
 unfolding encode chars caseless ucd_category key_text

@@ -11,7 +11,7 @@ use Rattle.ix_kinds.specs.Indextypes.{IndexOf}
 use Rattle.ix_context.specs.Indexes.{texts_in}
 use Rattle.cat_index.specs.Filings.{text_words}
 use Rattle.cat_index.specs.Catalogues.{CatalogueBody}
-use Rattle.cat_search.specs.Queries.{is_plain, key_term, red_hat}
+use Rattle.cat_search.specs.Queries.{is_boolean, key_term, red_hat}
 use Rattle.cat_search.specs.Meeting.{meets, met_rows}
 use Rattle.cat_search.specs.Words.{is_exact, may_meet}
 use Rattle.cat_search.specs.Looking.{has_slot_key, slot_key_rows}
@@ -19,12 +19,12 @@ use Rattle.cat_search.specs.Looking.{has_slot_key, slot_key_rows}
 -- A text that meets a query has words that may meet it.
 abbrev pub WordsRuleOut : Type 0
 WordsRuleOut =
-    (p : Prefs) (text : List ℕ) (q : Reduced) → IsPrefs p → length text ≤ 2 ^ 24 → is_plain q ≡ true → is_sound q ≡ true → meets p q text ≡ true → may_meet q (text_words p (Some text)) ≡ true
+    (p : Prefs) (text : List ℕ) (q : Reduced) → IsPrefs p → length text ≤ 2 ^ 24 → is_boolean q ≡ true → is_sound q ≡ true → meets p q text ≡ true → may_meet q (text_words p (Some text)) ≡ true
 
 -- Where each phrase of the query has one slot, its words tell whether it does.
 abbrev pub WordsTell : Type 0
 WordsTell =
-    (p : Prefs) (text : List ℕ) (q : Reduced) → IsPrefs p → length text ≤ 2 ^ 24 → is_plain q ≡ true → is_sound q ≡ true → is_exact q ≡ true → meets p q text ≡ may_meet q (text_words p (Some text))
+    (p : Prefs) (text : List ℕ) (q : Reduced) → IsPrefs p → length text ≤ 2 ^ 24 → is_boolean q ≡ true → is_sound q ≡ true → is_exact q ≡ true → meets p q text ≡ may_meet q (text_words p (Some text))
 
 -- The index sees a text of the row in its table, and the text meets the query.
 pub record IsMet (t : Table) (x : IndexOf CatalogueBody) (q : Reduced) (r : ℤ) : Type 0 where
@@ -48,7 +48,7 @@ pub record HaveSlotWords (t : Table) (x : IndexOf CatalogueBody) (q : Reduced) :
 -- So it is where no text that the index sees is longer than a text of a table can be.
 abbrev pub MetRowsHaveWords : Type 0
 MetRowsHaveWords =
-    (t : Table) (x : IndexOf CatalogueBody) (q : Reduced) → IsPrefs x.prefs → ((r : ℤ) (text : List ℕ) → texts_in t x.column r ≡ Some text → length text ≤ 2 ^ 24) → is_plain q ≡ true → is_sound q ≡ true
+    (t : Table) (x : IndexOf CatalogueBody) (q : Reduced) → IsPrefs x.prefs → ((r : ℤ) (text : List ℕ) → texts_in t x.column r ≡ Some text → length text ≤ 2 ^ 24) → is_boolean q ≡ true → is_sound q ≡ true
     → HaveSlotWords t x q
 
 -- computed examples: the query of a word is sound, and its words tell; those of a phrase don't

@@ -28,21 +28,21 @@ holds (Within place a) d = false
 holds (Define phrases sum) d = false
 
 -- whether a query has terms, AND, OR and NOT alone
-abbrev pub is_plain : Reduced → Bool
-is_plain (Term phrases) = true
-is_plain (Both And a b) = is_plain a && is_plain b
-is_plain (Both Or a b) = is_plain a && is_plain b
-is_plain (Both Not a b) = is_plain a && is_plain b
-is_plain (Both Minus a b) = false
-is_plain (Weight w a) = false
-is_plain (Above n a) = false
-is_plain (Near operands span ordered) = false
-is_plain (Within place a) = false
-is_plain (Define phrases sum) = false
+abbrev pub is_boolean : Reduced → Bool
+is_boolean (Term phrases) = true
+is_boolean (Both And a b) = is_boolean a && is_boolean b
+is_boolean (Both Or a b) = is_boolean a && is_boolean b
+is_boolean (Both Not a b) = is_boolean a && is_boolean b
+is_boolean (Both Minus a b) = false
+is_boolean (Weight w a) = false
+is_boolean (Above n a) = false
+is_boolean (Near operands span ordered) = false
+is_boolean (Within place a) = false
+is_boolean (Define phrases sum) = false
 
 -- A query holds of a document exactly where it has a score there.
 abbrev pub HoldsByScore : Type 0
-HoldsByScore = (q : Reduced) (d : DocPostings) → is_plain q ≡ true → holds q d ≡ nat_lt 0 (whole_score q d)
+HoldsByScore = (q : Reduced) (d : DocPostings) → is_boolean q ≡ true → holds q d ≡ nat_lt 0 (whole_score q d)
 
 -- ---- queries for examples
 
@@ -69,8 +69,8 @@ not_the_phrase = refl
 without_the_phrase : holds (Both Not (key_term (codes "red")) red_hat) hat_red ≡ true
 without_the_phrase = refl
 
-is_a_query : is_plain (Both Not (key_term (codes "red")) red_hat) ≡ true
+is_a_query : is_boolean (Both Not (key_term (codes "red")) red_hat) ≡ true
 is_a_query = refl
 
-no_minus : is_plain (Both Minus (key_term (codes "red")) red_hat) ≡ false
+no_minus : is_boolean (Both Minus (key_term (codes "red")) red_hat) ≡ false
 no_minus = refl

@@ -1,5 +1,5 @@
 -- What walks over a sub-index say of rows.
-use Rattle.std.specs.Prelude.{ℕ, ℤ, ◌≡◌, ◌≤◌, ◌⊎◌, Bool, true, false, ◌&&◌, List, [], ◌∷◌, ◌++◌, length, Option, Some, None, pos, codes, refl}
+use Rattle.std.specs.Prelude.{ℕ, ℤ, ◌≡◌, ◌≤◌, ◌⊎◌, Bool, true, false, ◌&&◌, ◌||◌, List, [], ◌∷◌, ◌++◌, length, Option, Some, None, pos, codes, refl}
 use Rattle.std.specs.Bool.{if◌then◌else◌}
 use Rattle.std.specs.Str.{IsUtf8}
 use Rattle.ct_keep.specs.Content.{Content}
@@ -9,7 +9,7 @@ use Rattle.ct_entry.specs.Lists.{EachIs}
 use Rattle.ct_entry.specs.Each.{is_any_of}
 use Rattle.q_tree.specs.declared.flats.Slot.{Slot}
 use Rattle.cat_walk.specs.Places.{has_place}
-use Rattle.cat_walk.specs.Walks.{Route, stops_at}
+use Rattle.cat_walk.specs.Walks.{Route, Places, stops_at}
 use Rattle.cat_search.specs.Words.{may_take}
 
 -- what all keys of a sub-index begin with; the plain one has the number 0
@@ -51,6 +51,11 @@ IsWalkFor m stem test route = (place_of : ℤ → List ℕ) (words : ℤ → Lis
 -- and of a walk to which the test of a slot is joined
 abbrev pub JoinsSlot : Content → List ℕ → Slot → Route → Route → Type 0
 JoinsSlot m stem slot old new = (place_of : ℤ → List ℕ) (words : ℤ → List (List ℕ)) → AreWordsOfRows m stem place_of words → JoinsTest (◌&&◌) (has_place m stem) place_of words (λ ws. may_take ws slot) old new
+
+-- To a list of places came those of the rows whose words pass a test, and no others, whichever places and words the rows have.
+abbrev pub GathersRows : Content → List ℕ → (List (List ℕ) → Bool) → List (List ℕ) → List (List ℕ) → Type 0
+GathersRows m stem test old new =
+    (place_of : ℤ → List ℕ) (words : ℤ → List (List ℕ)) → AreWordsOfRows m stem place_of words → JoinsTest (◌||◌) (has_place m stem) place_of words test (Places old) (Places new)
 
 -- ---- what a step makes of a place
 

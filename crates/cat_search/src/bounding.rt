@@ -9,7 +9,7 @@ use std::alloc::Global;
 
 /// Which places of a sub-index are taken, and between which they lie. A place is the values of a row in the columns of the sub-index, a number as
 /// the eight bytes of a row key and a text behind its length, and then the row's key.
-pub trait Within {
+pub trait PlaceRange {
     /// Whether a place is taken.
     ghost takes: { Self → List ℕ → Bool };
 
@@ -30,7 +30,7 @@ pub trait Within {
 #[derive(Clone, Copy)]
 pub struct Everywhere;
 
-impl Within for Everywhere {
+impl PlaceRange for Everywhere {
     ghost takes = { λ _ _. true };
 
     fn first(&self) -> &[u8] {

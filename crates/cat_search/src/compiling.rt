@@ -7,15 +7,14 @@ ghost use Rattle.ct_keep.specs.KeeperViews.{Finds, OnlyReads};
 ghost use Rattle.q_tree.specs.ReducedQueries.{reduced_of};
 ghost use Rattle.q_tree.specs.Soundness.{is_phrase, is_slot, is_sound, is_term};
 ghost use Rattle.cat_walk.specs.Looks.{LooksUpNoText};
-ghost use Rattle.cat_walk.specs.Places.{has_place};
-ghost use Rattle.cat_walk.specs.Walks.{Both, Either, StopsAlike, Without, has_rising_places, is_direct, route_of};
-ghost use Rattle.cat_search.specs.Queries.{is_plain};
+ghost use Rattle.cat_walk.specs.Walks.{Both, Without, has_rising_places, route_of};
+ghost use Rattle.cat_search.specs.Queries.{is_boolean};
 ghost use Rattle.cat_search.specs.Words.{is_exact, is_single, may_meet, phrase_may};
-ghost use Rattle.cat_search.specs.Walking.{IsWalkFor, JoinsSlot};
+ghost use Rattle.cat_search.specs.Walking.{GathersRows, IsWalkFor, JoinsSlot};
 
 use crate::slots::walk_of_slot;
-use cat_walk::{Walk, settled};
-use ct_base::Memory;
+use cat_walk::{Walk, place_list, put_slot, put_stops};
+use ct_base::{Bytes, Memory};
 use ct_keep::{KeepFault, Keeper};
 use q_tree::{Flat, Phrase, Slot};
 use std::alloc::Global;
@@ -27,38 +26,6 @@ fn both(alloc: Global, a: Walk, b: Walk) -> Result<Walk, Memory>
     let a = Box::new(alloc, a)?;
     let b = Box::new(alloc, b)?;
     Ok(Walk::Both(a, b))
-}
-
-/// The walk that stops where one of them does.
-fn either(alloc: Global, a: Walk, b: Walk) -> Result<Walk, Memory>
-    ensures { IfOk result (λ walk. route_of walk ≡ Either (route_of a) (route_of b)) }
-{
-    let a = Box::new(alloc, a)?;
-    let b = Box::new(alloc, b)?;
-    Ok(Walk::Either(a, b))
-}
-
-/// The walk that stops where one of two does. Each of the two is settled, so that no step of it is made twice.
-fn settled_either<K: Keeper>(
-    alloc: Global,
-    keeper: &mut K,
-    stem: &[u8],
-    a: Walk,
-    b: Walk,
-) -> Result<Walk, KeepFault>
-    requires ready { (K.view keeper.old).ready }
-    requires rise_a { has_rising_places (route_of a) ≡ true }
-    requires rise_b { has_rising_places (route_of b) ≡ true }
-    ensures walk { Finds K.view keeper.old result (λ m walk. StopsAlike (has_place m stem.now) (Either (route_of a) (route_of b)) (route_of walk)) }
-    ensures direct { IfOk result (λ walk. is_direct (route_of walk) ≡ true) }
-    ensures rise { IfOk result (λ walk. has_rising_places (route_of walk) ≡ true) }
-    ensures reads { OnlyReads K.view keeper.old keeper.new result }
-    ensures spares { LooksUpNoText stem.now (K.view keeper.old) (K.view keeper.new) }
-{
-    let first = settled(alloc, keeper, stem, a)?;
-    let second = settled(alloc, keeper, stem, b)?;
-    let walk = either(alloc, first, second)?;
-    Ok(walk)
 }
 
 /// The walk that stops where the first does and the second doesn't.
@@ -135,7 +102,50 @@ fn walk_of_phrase<K: Keeper>(
     Ok(walk)
 }
 
-/// The walk over the rows whose words have one for each slot of some phrase of a term.
+/// Appends the places of the rows whose words have one for each of the first 16 slots of a phrase: of one slot by scans, and of several by a walk.
+fn put_phrase<K: Keeper>(
+    alloc: Global,
+    keeper: &mut K,
+    stem: &[u8],
+    phrase: &[Slot],
+    places: &mut Vec<Bytes>,
+) -> Result<(), KeepFault>
+    requires ready { (K.view keeper.old).ready }
+    requires phrase { is_phrase phrase.now ≡ true }
+    ensures places { Finds K.view keeper.old result (λ m _. GathersRows m stem.now (λ words. phrase_may words phrase.now) places.old.items places.new.items) }
+    ensures reads { OnlyReads K.view keeper.old keeper.new result }
+    ensures spares { LooksUpNoText stem.now (K.view keeper.old) (K.view keeper.new) }
+{
+    if let [slot] = phrase {
+        return put_slot(alloc, keeper, stem, slot, places);
+    }
+    let walk = walk_of_phrase(alloc, keeper, stem, phrase)?;
+    put_stops(alloc, keeper, stem, &walk, places)
+}
+
+/// Appends those of some phrases, one after the other.
+fn put_phrases<K: Keeper>(
+    alloc: Global,
+    keeper: &mut K,
+    stem: &[u8],
+    phrases: &[Phrase],
+    places: &mut Vec<Bytes>,
+) -> Result<(), KeepFault>
+    requires ready { (K.view keeper.old).ready }
+    requires term { is_term phrases.now ≡ true }
+    ensures places { Finds K.view keeper.old result (λ m _. GathersRows m stem.now (λ words. list_any (phrase_may words) phrases.now) places.old.items places.new.items) }
+    ensures reads { OnlyReads K.view keeper.old keeper.new result }
+    ensures spares { LooksUpNoText stem.now (K.view keeper.old) (K.view keeper.new) }
+{
+    let mut rest = phrases;
+    'phrases: while let Some((phrase, others)) = rest.split_first() {
+        put_phrase(alloc, keeper, stem, phrase.as_slice(), places)?;
+        rest = others;
+    }
+    Ok(())
+}
+
+/// The walk over the rows whose words have one for each slot of some phrase of a term. Of several phrases the places are gathered in one list.
 fn walk_of_term<K: Keeper>(
     alloc: Global,
     keeper: &mut K,
@@ -149,17 +159,12 @@ fn walk_of_term<K: Keeper>(
     ensures reads { OnlyReads K.view keeper.old keeper.new result }
     ensures spares { LooksUpNoText stem.now (K.view keeper.old) (K.view keeper.new) }
 {
-    let [first, later @ ..] = phrases else {
-        unreachable!()
-    };
-    let mut walk = walk_of_phrase(alloc, keeper, stem, first.as_slice())?;
-    let mut rest = later;
-    'phrases: while let Some((phrase, others)) = rest.split_first() {
-        let other = walk_of_phrase(alloc, keeper, stem, phrase.as_slice())?;
-        walk = settled_either(alloc, keeper, stem, walk, other)?;
-        rest = others;
+    if let [phrase] = phrases {
+        return walk_of_phrase(alloc, keeper, stem, phrase.as_slice());
     }
-    Ok(walk)
+    let mut places = Vec::new(alloc);
+    put_phrases(alloc, keeper, stem, phrases, &mut places)?;
+    Ok(place_list(places))
 }
 
 /// Whether each phrase has one slot.
@@ -188,12 +193,42 @@ pub(crate) fn is_exact(flat: &Flat) -> bool
     }
 }
 
+/// Appends the places of the rows whose words don't rule out that they meet the query. The arms of a chain of ORs are gathered one after the other.
+#[cycle(compile)]
+fn put_rows<K: Keeper>(
+    alloc: Global,
+    keeper: &mut K,
+    stem: &[u8],
+    flat: &Flat,
+    places: &mut Vec<Bytes>,
+) -> Result<(), KeepFault>
+    requires ready { (K.view keeper.old).ready }
+    requires sound { is_sound (reduced_of flat.now) ≡ true }
+    requires boolean { is_boolean (reduced_of flat.now) ≡ true }
+    ensures places { Finds K.view keeper.old result (λ m _. GathersRows m stem.now (may_meet (reduced_of flat.now)) places.old.items places.new.items) }
+    ensures reads { OnlyReads K.view keeper.old keeper.new result }
+    ensures spares { LooksUpNoText stem.now (K.view keeper.old) (K.view keeper.new) }
+{
+    match flat {
+        Flat::Term(phrases) => put_phrases(alloc, keeper, stem, phrases.as_slice(), places),
+        Flat::Or(a, b) => {
+            put_rows(alloc, keeper, stem, a, places)?;
+            put_rows(alloc, keeper, stem, b, places)
+        }
+        _ => {
+            let walk = compile(alloc, keeper, stem, flat)?;
+            put_stops(alloc, keeper, stem, &walk, places)
+        }
+    }
+}
+
 /// The walk over the rows whose words don't rule out that they meet the query. It stops at each row that does.
 ///
-/// It is as deep as the query, of whose phrases the first 16 slots count. It gathers the places of each slot of several keys or of patterns; and of two parts that are joined
-/// by OR, and of each phrase of several that a term has, it gathers the places of the rows whose words have all that is asked for, unless words and
-/// lists joined by OR are all that it has. Each such part is walked once for that, from its beginning to its end. So no step is made twice, here or
-/// in the search; and the places of all these parts are held at once.
+/// It is as deep as the query, of whose phrases the first 16 slots count. Where one of several parts is enough, as of the arms of OR, the phrases of a
+/// term and the keys and patterns of a slot, their places are gathered in one list, which is put in order once: a part of one slot is scanned, and any
+/// other is walked once, from its beginning to its end. So no step asks several parts for the next place of one of them, here or in the search, and
+/// no query costs the square of its words times the rows that have them. The places of all these lists are held at once.
+#[cycle(compile)]
 pub(crate) fn compile<K: Keeper>(
     alloc: Global,
     keeper: &mut K,
@@ -202,7 +237,7 @@ pub(crate) fn compile<K: Keeper>(
 ) -> Result<Walk, KeepFault>
     requires ready { (K.view keeper.old).ready }
     requires sound { is_sound (reduced_of flat.now) ≡ true }
-    requires plain { is_plain (reduced_of flat.now) ≡ true }
+    requires boolean { is_boolean (reduced_of flat.now) ≡ true }
     ensures walk { Finds K.view keeper.old result (λ m walk. IsWalkFor m stem.now (may_meet (reduced_of flat.now)) (route_of walk)) }
     ensures rise { IfOk result (λ walk. has_rising_places (route_of walk) ≡ true) }
     ensures reads { OnlyReads K.view keeper.old keeper.new result }
@@ -216,9 +251,10 @@ pub(crate) fn compile<K: Keeper>(
             Ok(both(alloc, first, second)?)
         }
         Flat::Or(a, b) => {
-            let first = compile(alloc, keeper, stem, a)?;
-            let second = compile(alloc, keeper, stem, b)?;
-            settled_either(alloc, keeper, stem, first, second)
+            let mut places = Vec::new(alloc);
+            put_rows(alloc, keeper, stem, a, &mut places)?;
+            put_rows(alloc, keeper, stem, b, &mut places)?;
+            Ok(place_list(places))
         }
         Flat::Not(a, b) => {
             let first = compile(alloc, keeper, stem, a)?;

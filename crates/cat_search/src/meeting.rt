@@ -3,13 +3,10 @@
 
 ghost use Rattle.std.specs.Prelude.{◌≡◌, ◌≤◌, ◌^◌, true, length, IfOk};
 ghost use Rattle.ct_keep.specs.KeeperViews.{OnlyReads};
-ghost use Rattle.tx_settings.specs.Attributes.{can_be_set};
 ghost use Rattle.q_tree.specs.ReducedQueries.{reduced_of};
-ghost use Rattle.q_tree.specs.Soundness.{is_sound};
 ghost use Rattle.ix_context.specs.Postings.{IsShortOrNone};
 ghost use Rattle.ix_context.specs.Sees.{SeesTables};
-ghost use Rattle.cat_search.specs.Queries.{is_plain};
-ghost use Rattle.cat_search.specs.Meeting.{meets, some_meets};
+ghost use Rattle.cat_search.specs.Meeting.{IsQueryFor, meets, some_meets};
 ghost use Rattle.cat_search.specs.Contents.{target_meets};
 ghost use Rattle.cat_search.specs.Looking.{ReadsTexts};
 
@@ -29,9 +26,7 @@ const TEXT_LIMIT: usize = 1 << 19;
 /// Whether a text of at most 2^19 bytes meets a query. Its cost is that of reading the text, and that of scoring it.
 fn text_meets(alloc: Global, prefs: &Prefs, flat: &Flat, text: &str) -> Result<bool, Memory>
     requires short { length text.now ≤ 2 ^ 19 }
-    requires set { can_be_set prefs.now.lexer ≡ true }
-    requires sound { is_sound (reduced_of flat.now) ≡ true }
-    requires plain { is_plain (reduced_of flat.now) ≡ true }
+    requires query { IsQueryFor prefs.now (reduced_of flat.now) }
     ensures { IfOk result (λ met. met ≡ meets prefs.now (reduced_of flat.now) text.now) }
 {
     prefs.keep_rules();
@@ -43,9 +38,7 @@ fn text_meets(alloc: Global, prefs: &Prefs, flat: &Flat, text: &str) -> Result<b
 
 /// The same where there may be none. One of over 2^19 bytes, which no table has, counts as none.
 fn some_meets(alloc: Global, prefs: &Prefs, flat: &Flat, text: Option<Text>) -> Result<bool, Memory>
-    requires set { can_be_set prefs.now.lexer ≡ true }
-    requires sound { is_sound (reduced_of flat.now) ≡ true }
-    requires plain { is_plain (reduced_of flat.now) ≡ true }
+    requires query { IsQueryFor prefs.now (reduced_of flat.now) }
     ensures { IsShortOrNone text → IfOk result (λ met. met ≡ some_meets prefs.now (reduced_of flat.now) text) }
 {
     match text {
@@ -65,9 +58,7 @@ pub(crate) fn row_meets<K: Keeper>(
     row: RowKey,
 ) -> Result<bool, KeepFault>
     requires ready { (K.view keeper.old).ready }
-    requires set { can_be_set catalogue.now.prefs.lexer ≡ true }
-    requires sound { is_sound (reduced_of flat.now) ≡ true }
-    requires plain { is_plain (reduced_of flat.now) ≡ true }
+    requires query { IsQueryFor catalogue.now.prefs (reduced_of flat.now) }
     ensures met { SeesTables K.view keeper.old result (λ ts met. met ≡ target_meets catalogue.now (reduced_of flat.now) ts row.0) }
     ensures reads { OnlyReads K.view keeper.old keeper.new result }
     ensures texts { ReadsTexts 1 (K.view keeper.old).counts (K.view keeper.new).counts }

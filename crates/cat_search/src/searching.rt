@@ -3,16 +3,14 @@
 
 ghost use Rattle.std.specs.Prelude.{◌≡◌, true, IfOk};
 ghost use Rattle.ct_keep.specs.KeeperViews.{OnlyReads};
-ghost use Rattle.tx_settings.specs.Attributes.{can_be_set};
 ghost use Rattle.q_tree.specs.ReducedQueries.{reduced_of};
-ghost use Rattle.q_tree.specs.Soundness.{is_sound};
-ghost use Rattle.cat_search.specs.Queries.{is_plain};
+ghost use Rattle.cat_search.specs.Meeting.{IsQueryFor};
 ghost use Rattle.cat_search.specs.Contents.{AreMetRows, SeesCatalogue, ToldCatalogue};
 ghost use Rattle.cat_search.specs.SubIndexes.{AreTakenRows, HasSub};
 ghost use Rattle.cat_search.specs.Walking.{sub_stem};
 ghost use Rattle.cat_search.specs.Looking.{ReadsSlotTexts};
 
-use crate::bounding::{Everywhere, Within};
+use crate::bounding::{Everywhere, PlaceRange};
 use crate::compiling::compile;
 use crate::gathering::rows_of_walk;
 use cat_index::Catalogue;
@@ -35,37 +33,35 @@ fn sub_stem(alloc: Global, index: &Name, sub: u8) -> Result<Vec<u8>, Memory>
 /// The rows of a catalogue's table whose text meets a query, and whose place in a sub-index of this number is taken: in the order of their keys. The
 /// query has terms, AND, OR and NOT alone, and the catalogue has the sub-index.
 ///
-/// It walks through the entries of the sub-index in the order of the values, from the first place that may be taken to the last one. So it looks at
-/// the rows alone whose words don't rule out that they meet the query; where a phrase has several slots, it reads the text of each of these that is
-/// taken, once. What is gathered before, of slots with several keys or patterns and of what is joined by OR, is gathered from all of the
-/// sub-index. It never answers Full.
-pub fn rows_within<K: Keeper, W: Within>(
+/// It walks through the entries of the sub-index in the order of the values, from the first place that may be taken to the last one, and looks at the
+/// rows alone whose words don't rule out that they meet the query. Where a phrase has several slots it reads texts, of rows with a word that one of
+/// its slots takes, each once at most. What is gathered before, of slots with several keys or patterns and of what is joined by OR, is gathered
+/// from all of the sub-index. It never answers Full.
+pub fn rows_within<K: Keeper, R: PlaceRange>(
     alloc: Global,
     keeper: &mut K,
     index: &Name,
     catalogue: &Catalogue,
     sub: u8,
     flat: &Flat,
-    within: &W,
+    range: &R,
 ) -> Result<Vec<RowKey>, KeepFault>
     requires ready { (K.view keeper.old).ready }
-    requires set { can_be_set catalogue.now.prefs.lexer ≡ true }
-    requires sound { is_sound (reduced_of flat.now) ≡ true }
-    requires plain { is_plain (reduced_of flat.now) ≡ true }
-    ensures rows { ToldCatalogue K.view keeper.old index.now catalogue.now (λ t x. HasSub x sub → IfOk result (AreTakenRows (W.takes within.now) sub flat.now t x)) }
+    requires query { IsQueryFor catalogue.now.prefs (reduced_of flat.now) }
+    ensures rows { ToldCatalogue K.view keeper.old index.now catalogue.now (λ t x. HasSub x sub → IfOk result (AreTakenRows (R.takes range.now) sub flat.now t x)) }
     ensures reads { OnlyReads K.view keeper.old keeper.new result }
     ensures texts { ToldCatalogue K.view keeper.old index.now catalogue.now (λ t x. HasSub x sub → ReadsSlotTexts K.view keeper.old keeper.new flat.now t x) }
 {
     let stem = sub_stem(alloc, index, sub)?;
     let walk = compile(alloc, keeper, &stem, flat)?;
-    rows_of_walk(alloc, keeper, catalogue, sub, flat, &stem, &walk, within)
+    rows_of_walk(alloc, keeper, catalogue, sub, flat, &stem, &walk, range)
 }
 
 /// The rows of a catalogue's table whose text meets a query, in the order of their keys. The query has terms, AND, OR and NOT alone.
 ///
 /// It walks through the entries of the plain sub-index, and so looks at the rows alone whose words don't rule out that they meet the query; where a
 /// phrase has several slots, it reads the text of each of these, once. Each part of the query is walked once, and of what is joined by OR the places
-/// are held. It never answers Full.
+/// are gathered first. It never answers Full.
 pub fn rows_meeting<K: Keeper>(
     alloc: Global,
     keeper: &mut K,
@@ -74,9 +70,7 @@ pub fn rows_meeting<K: Keeper>(
     flat: &Flat,
 ) -> Result<Vec<RowKey>, KeepFault>
     requires ready { (K.view keeper.old).ready }
-    requires set { can_be_set catalogue.now.prefs.lexer ≡ true }
-    requires sound { is_sound (reduced_of flat.now) ≡ true }
-    requires plain { is_plain (reduced_of flat.now) ≡ true }
+    requires query { IsQueryFor catalogue.now.prefs (reduced_of flat.now) }
     ensures rows { SeesCatalogue K.view keeper.old index.now catalogue.now result (AreMetRows flat.now) }
     ensures reads { OnlyReads K.view keeper.old keeper.new result }
     ensures texts { ToldCatalogue K.view keeper.old index.now catalogue.now (ReadsSlotTexts K.view keeper.old keeper.new flat.now) }

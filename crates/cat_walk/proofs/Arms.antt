@@ -6,7 +6,7 @@ use Rattle.std.specs.declared.alloc.Global.{Global}
 use Rattle.std.proofs.lemmas.Bool.{and_parts}
 use Rattle.ct_keep.specs.declared.keepers.KeepFault.{KeepFault}
 use Rattle.cat_walk.specs.Places.{IsNext, is_listed, next_of}
-use Rattle.cat_walk.specs.Walks.{Route, Word, Places, Both, Either, Without, has_rising_places, route_of, stops_at}
+use Rattle.cat_walk.specs.Walks.{Route, Word, Places, Both, Without, has_rising_places, route_of, stops_at}
 use Rattle.cat_walk.specs.declared.walks.Walk.{Walk}
 
 -- what a call gave, where its place was handed over as a slice
@@ -28,9 +28,6 @@ word_route walk word spelt is same = is ∙ ap Word (sym same)
 
 pub both_route : (walk : Route) (a b x y : Walk) → walk ≡ Both (route_of a) (route_of b) → x ≡ a → y ≡ b → walk ≡ Both (route_of x) (route_of y)
 both_route walk a b x y is first second = is ∙ ap (λ (w : Walk). Both (route_of w) (route_of b)) (sym first) ∙ ap (λ (w : Walk). Both (route_of x) (route_of w)) (sym second)
-
-pub either_route : (walk : Route) (a b x y : Walk) → walk ≡ Either (route_of a) (route_of b) → x ≡ a → y ≡ b → walk ≡ Either (route_of x) (route_of y)
-either_route walk a b x y is first second = is ∙ ap (λ (w : Walk). Either (route_of w) (route_of b)) (sym first) ∙ ap (λ (w : Walk). Either (route_of x) (route_of w)) (sym second)
 
 pub without_route : (walk : Route) (a b x y : Walk) → walk ≡ Without (route_of a) (route_of b) → x ≡ a → y ≡ b → walk ≡ Without (route_of x) (route_of y)
 without_route walk a b x y is first second = is ∙ ap (λ (w : Walk). Without (route_of w) (route_of b)) (sym first) ∙ ap (λ (w : Walk). Without (route_of x) (route_of w)) (sym second)

@@ -23,26 +23,9 @@ use Rattle.q_tree.specs.Slots.{is_end, matches, some_end, takes}
 use Rattle.q_match.specs.Literals.{leading_literal}
 use Rattle.q_match.specs.Promises.{MatchesBeginWithLiteral}
 use Rattle.cat_walk.specs.Places.{has_place, is_listed}
+use Rattle.cat_walk.specs.laws.Listed.{in_listed, listed_in}
 use Rattle.cat_walk.specs.Gathering.{AddsPlaces, ArePlacesOf, HasWordAt}
 use Rattle.cat_walk.specs.Scanned.{is_word_of, least_length, length_places, lengths_places, pattern_places, places_in, word_places}
-
--- ---- places in lists
-
-pub in_listed : (ps : List (List ℕ)) (place : List ℕ) → is_listed ps place ≡ true → IsIn place ps
-in_listed [] place h = cc
-in_listed (p ∷ ps) place h = elim (or_cases (same_list place p) (is_listed ps place) h) [
-  | inl same ↦ inl (list_from_same place p same)
-  | inr later ↦ inr (in_listed ps place later)
-]
-
-pub listed_in : (ps : List (List ℕ)) (place : List ℕ) → IsIn place ps → is_listed ps place ≡ true
-listed_in [] place h = absurd h
-listed_in (p ∷ ps) place (inl is) = ap (λ (t : Bool). t || is_listed ps place) (subst (λ (q : List ℕ). same_list place q ≡ true) is (list_same place))
-listed_in (p ∷ ps) place (inr there) = ap (λ (t : Bool). same_list place p || t) (listed_in ps place there) ∙ or_yes (same_list place p)
-  where
-    or_yes : (t : Bool) → (t || true) ≡ true
-    or_yes true = refl
-    or_yes false = refl
 
 -- ---- entries behind a prefix
 

@@ -6,7 +6,7 @@ use Rattle.ct_base.specs.laws.Bools.{or_false, same_tests}
 use Rattle.ct_entry.specs.Keys.{same_list}
 use Rattle.ct_entry.specs.laws.Keys.{list_from_same, list_same}
 use Rattle.cat_walk.specs.Places.{ArePlacesUpTo, IsFirstAfter, IsNext, comes_before, is_listed}
-use Rattle.cat_walk.specs.Walks.{Route, Places, StopsAlike, stops_at}
+use Rattle.cat_walk.specs.Walks.{AddsStops, Route, Places, StopsAlike, stops_at}
 use Rattle.cat_walk.specs.laws.Orders.{same_place}
 
 -- a place more at the end
@@ -61,16 +61,20 @@ next_there holds last here ps more are next grown = subst (ArePlacesUpTo holds h
     to : (place : List ℕ) → comes_before here place ≡ false → holds place ≡ true → is_listed (ps ++ here ∷ []) place ≡ true
     to place behind at = listed_more place here ps ∙ parts place behind at (comes_before place here) refl
 
--- where the walk stops nowhere more, a list of these places, in any order, stops where it does
-pub ends_alike : (has : List ℕ → List ℕ → Bool) (route : Route) (last : List ℕ) (ps sorted : List (List ℕ)) → ArePlacesUpTo (stops_at has route) last ps → IsNext (stops_at has route) last None
-    → ((place : List ℕ) → is_listed sorted place ≡ is_listed ps place) → StopsAlike has route (Places sorted)
-ends_alike has route last ps sorted are none same = record {
-  at = λ place. same place ∙ same_tests (is_listed ps place) (stops_at has route place) (are.from place) (λ h. are.to place (up_to place h (comes_before last place) refl) h);
-}
+-- where the walk stops nowhere more, these places are all
+pub ends_alike : (has : List ℕ → List ℕ → Bool) (route : Route) (last : List ℕ) (ps : List (List ℕ)) → ArePlacesUpTo (stops_at has route) last ps → IsNext (stops_at has route) last None → StopsAlike has route (Places ps)
+ends_alike has route last ps are none = record { at = λ place. same_tests (is_listed ps place) (stops_at has route place) (are.from place) (λ h. are.to place (up_to place h (comes_before last place) refl) h) }
   where
     up_to : (place : List ℕ) → stops_at has route place ≡ true → (t : Bool) → comes_before last place ≡ t → comes_before last place ≡ false
     up_to place h true behind = let wrong : false ≡ true = sym (none place behind) ∙ h in cc
     up_to place h false behind = behind
 
-pub alike_itself : (has : List ℕ → List ℕ → Bool) (route : Route) → StopsAlike has route route
-alike_itself has route = record { at = λ place. refl }
+-- and behind others
+pub stops_added : (has : List ℕ → List ℕ → Bool) (route : Route) (old stops new : List (List ℕ)) → StopsAlike has route (Places stops) → new ≡ old ++ stops → AddsStops has route old new
+stops_added has route old stops new alike grown = record {
+  each = λ place. ap (λ (ps : List (List ℕ)). is_listed ps place) grown ∙ list_any-append (same_list place) old stops ∙ ap (λ (t : Bool). is_listed old place || t) (alike.at place);
+}
+
+-- the same places in another order
+pub list_alike : (has : List ℕ → List ℕ → Bool) (places sorted : List (List ℕ)) (route : Route) → route ≡ Places sorted → ((place : List ℕ) → is_listed sorted place ≡ is_listed places place) → StopsAlike has (Places places) route
+list_alike has places sorted route is same = subst (StopsAlike has (Places places)) (sym is) (record { at = same })

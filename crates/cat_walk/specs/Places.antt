@@ -1,5 +1,5 @@
 -- The places of a catalogue's entries under a word, in their order.
-use Rattle.std.specs.Prelude.{ℕ, ◌≡◌, Bool, true, false, ◌&&◌, List, [], ◌∷◌, ◌++◌, Option, Some, None, is_some, Vec, bytes_eq, codes, refl}
+use Rattle.std.specs.Prelude.{ℕ, ◌≡◌, Bool, true, false, not, ◌&&◌, List, [], ◌∷◌, ◌++◌, length, take, Option, Some, None, is_some, Vec, bytes_eq, codes, refl}
 use Rattle.std.specs.Bool.{if◌then◌else◌}
 use Rattle.std.specs.List.{list_any}
 use Rattle.std.specs.Option.{option_map}
@@ -19,6 +19,11 @@ has_place m stem word place = is_some (get m ((stem ++ word) ++ place))
 abbrev pub comes_before : List ℕ → List ℕ → Bool
 comes_before a b = is_lt (slice_cmp nat_cmp a b)
 
+-- The place lies from the one bound to the other: it goes on behind the least one, or a greater one stands at its beginning, and its first bytes, as many as the
+-- bounds have, are the greatest at most. Both bounds have the same number of bytes, and a place ends with those of a row, so it has more.
+abbrev pub is_between : List ℕ → List ℕ → List ℕ → Bool
+is_between low high place = comes_before low place && not (comes_before high (take (length high) place))
+
 -- It is the first place after one at which a test holds.
 pub record IsFirstAfter (holds : List ℕ → Bool) (after place : List ℕ) : Type 0 where
   pub behind : comes_before after place ≡ true
@@ -33,12 +38,6 @@ IsNext holds after None = (p : List ℕ) → comes_before after p ≡ true → h
 -- a place as code holds it
 abbrev pub next_of : Option (Vec ℕ Global) → Option (List ℕ)
 next_of next = option_map (λ place. place.items) next
-
--- the one of two places that comes first, where each may be missing
-abbrev pub lesser : Option (List ℕ) → Option (List ℕ) → Option (List ℕ)
-lesser (Some a) (Some b) = if comes_before a b then Some a else Some b
-lesser (Some a) None = Some a
-lesser None b = b
 
 -- ---- lists of places
 
@@ -71,6 +70,28 @@ before_the_longer = refl
 
 not_before_itself : comes_before (codes "a") (codes "a") ≡ false
 not_before_itself = refl
+
+-- of the places that go on behind the byte 2 or 3, whatever follows
+behind_the_least : is_between (2 ∷ []) (3 ∷ []) (2 ∷ 0 ∷ []) ≡ true
+behind_the_least = refl
+
+behind_the_greatest : is_between (2 ∷ []) (3 ∷ []) (3 ∷ 9 ∷ []) ≡ true
+behind_the_greatest = refl
+
+above_the_greatest : is_between (2 ∷ []) (3 ∷ []) (4 ∷ 0 ∷ []) ≡ false
+above_the_greatest = refl
+
+below_the_least : is_between (2 ∷ []) (3 ∷ []) (1 ∷ 9 ∷ []) ≡ false
+below_the_least = refl
+
+not_the_least_itself : is_between (2 ∷ []) (3 ∷ []) (2 ∷ []) ≡ false
+not_the_least_itself = refl
+
+none_where_they_are_exchanged : is_between (3 ∷ []) (2 ∷ []) (2 ∷ 9 ∷ []) ≡ false
+none_where_they_are_exchanged = refl
+
+by_no_bytes : is_between [] [] (codes "a") ≡ true
+by_no_bytes = refl
 
 these_rise : places_rise ((1 ∷ []) ∷ (1 ∷ 5 ∷ []) ∷ (2 ∷ []) ∷ []) ≡ true
 these_rise = refl

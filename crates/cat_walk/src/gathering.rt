@@ -28,7 +28,7 @@ fn word_prefix(alloc: Global, stem: &[u8], size: u8, literal: &[u8]) -> Result<V
     Ok(prefix)
 }
 
-/// Puts the places of the words of `size` bytes that have a pattern at the end.
+/// Appends the places of the words of `size` bytes that have a pattern.
 fn put_size<K: Keeper>(
     alloc: Global,
     keeper: &mut K,
@@ -51,7 +51,7 @@ fn put_size<K: Keeper>(
     Ok(())
 }
 
-/// Puts the places of the words that have a pattern at the end.
+/// Appends the places of the words that have a pattern.
 fn put_pattern<K: Keeper>(
     alloc: Global,
     keeper: &mut K,
@@ -83,7 +83,7 @@ fn is_word(key: &[u8]) -> bool
     is_utf8(key) && 1 <= key.len() && key.len() <= TOKEN_LIMIT
 }
 
-/// Puts the places of a word at the end.
+/// Appends the places of a word.
 fn put_key<K: Keeper>(
     alloc: Global,
     keeper: &mut K,
@@ -105,7 +105,7 @@ fn put_key<K: Keeper>(
     Ok(())
 }
 
-/// Puts the places of some words at the end.
+/// Appends the places of some words.
 fn put_keys<K: Keeper>(
     alloc: Global,
     keeper: &mut K,
@@ -126,7 +126,7 @@ fn put_keys<K: Keeper>(
     Ok(())
 }
 
-/// Puts the places of the words that have one of some patterns at the end.
+/// Appends the places of the words that have one of some patterns.
 fn put_patterns<K: Keeper>(
     alloc: Global,
     keeper: &mut K,
@@ -147,8 +147,12 @@ fn put_patterns<K: Keeper>(
     Ok(())
 }
 
-/// Puts the places of the words that a slot takes at the end.
-fn put_slot<K: Keeper>(
+/// Appends the places at which a word that a slot takes has an entry. The stem is what the keys of the sub-index begin with.
+///
+/// A key has the length of its word before the word. So it makes a scan for each length, of the entries of the words that begin with the
+/// leading literal of a pattern, and one for each key. It costs what it scans; and for each word of a pattern's scans the length of the pattern
+/// times that of the word. It holds what one scan found beside the places. It reads no text, and never answers Full.
+pub fn put_slot<K: Keeper>(
     alloc: Global,
     keeper: &mut K,
     stem: &[u8],
@@ -170,7 +174,7 @@ fn put_slot<K: Keeper>(
 }
 
 /// Puts places in order, each once. It takes no memory, and time in proportion to their number where they are in order already.
-pub(crate) fn sort_once(places: &mut Vec<Bytes>)
+pub(crate) fn sort_places(places: &mut Vec<Bytes>)
     ensures rise { places_rise places.new.items ≡ true }
     ensures same { (place : List ℕ) → is_listed places.new.items place ≡ is_listed places.old.items place }
 {
@@ -178,12 +182,7 @@ pub(crate) fn sort_once(places: &mut Vec<Bytes>)
     places.dedup_by(|a, b| a.as_slice() == b.as_slice());
 }
 
-/// The places at which a word that a slot takes has an entry: in order, each once. The stem is what the keys of the sub-index begin with.
-///
-/// A key has the length of its word before the word. So it makes a scan for each length, of the entries of the words that begin with the
-/// leading literal of a pattern, and one for each key. It costs what it scans; for each word of a pattern's scans the length of the pattern
-/// times that of the word; and putting the places in order. It holds what one scan found beside the places. It reads no text, and never
-/// answers Full.
+/// The places at which a word that a slot takes has an entry: in order, each once. It costs what `put_slot` does, and putting the places in order.
 pub fn places_of<K: Keeper>(
     alloc: Global,
     keeper: &mut K,
@@ -198,6 +197,6 @@ pub fn places_of<K: Keeper>(
 {
     let mut places = Vec::new(alloc);
     put_slot(alloc, keeper, stem, slot, &mut places)?;
-    sort_once(&mut places);
+    sort_places(&mut places);
     Ok(places)
 }

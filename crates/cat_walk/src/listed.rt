@@ -8,11 +8,11 @@ ghost use Rattle.cat_walk.specs.Places.{IsNext, comes_before, is_first, is_liste
 use ct_base::{Bytes, Memory};
 use std::alloc::Global;
 
-/// The same bytes once more.
-pub(crate) fn copy(alloc: Global, bytes: &[u8]) -> Result<Vec<u8>, Memory>
-    ensures { IfOk result (λ copy. copy.items ≡ bytes.now) }
+/// The same place once more.
+pub fn place_copy(alloc: Global, place: &[u8]) -> Result<Vec<u8>, Memory>
+    ensures { IfOk result (λ copy. copy.items ≡ place.now) }
 {
-    let copy = Vec::from_slice(alloc, bytes)?;
+    let copy = Vec::from_slice(alloc, place)?;
     Ok(copy)
 }
 
@@ -56,7 +56,7 @@ fn first_of(alloc: Global, places: &[Bytes]) -> Result<Option<Vec<u8>>, Memory>
 {
     match places {
         [] => Ok(None),
-        [first, ..] => Ok(Some(copy(alloc, first.as_slice())?)),
+        [first, ..] => Ok(Some(place_copy(alloc, first.as_slice())?)),
     }
 }
 

@@ -71,11 +71,6 @@ pub(crate) fn stops_at<K: Keeper>(
             let second = stops_at(alloc, keeper, stem, b, place)?;
             Ok(first && second)
         }
-        Walk::Either(a, b) => {
-            let first = stops_at(alloc, keeper, stem, a, place)?;
-            let second = stops_at(alloc, keeper, stem, b, place)?;
-            Ok(first || second)
-        }
         Walk::Without(a, b) => {
             let first = stops_at(alloc, keeper, stem, a, place)?;
             let second = stops_at(alloc, keeper, stem, b, place)?;

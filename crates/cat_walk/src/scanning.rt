@@ -80,7 +80,7 @@ fn has_pattern(
     Ok(has)
 }
 
-/// Puts a place at the end.
+/// Appends a place.
 pub(crate) fn put_place(alloc: Global, places: &mut Vec<Bytes>, place: &[u8]) -> Result<(), Memory>
     ensures { OnOk result (places.new.items ≡ places.old.items ++ place.now ∷ []) }
 {
@@ -89,7 +89,7 @@ pub(crate) fn put_place(alloc: Global, places: &mut Vec<Bytes>, place: &[u8]) ->
     Ok(())
 }
 
-/// Puts what follows the word in the rest of a key at the end, if the word has the pattern.
+/// Appends what follows the word in the rest of a key, if the word has the pattern.
 #[tactic(auto, using(crate::proofs::ScannedKeys::place_missing, crate::proofs::ScannedKeys::place_put, crate::proofs::ScannedKeys::place_passed))]
 fn put_place_in(
     alloc: Global,
@@ -113,7 +113,7 @@ fn put_place_in(
     Ok(())
 }
 
-/// Puts the places in the rests of some keys at the end. Its cost is the length of the keys, and for each word, whose entries follow one
+/// Appends the places in the rests of some keys. Its cost is the length of the keys, and for each word, whose entries follow one
 /// another, the length of the pattern times that of the word.
 pub(crate) fn put_places_in(
     alloc: Global,
@@ -142,7 +142,7 @@ pub(crate) fn put_places_in(
     Ok(())
 }
 
-/// Puts the rests of some keys at the end.
+/// Appends the rests of some keys.
 pub(crate) fn put_rests(
     alloc: Global,
     entries: &[Entry],

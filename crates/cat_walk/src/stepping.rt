@@ -4,15 +4,14 @@
 ghost use Rattle.std.specs.Prelude.{◌≡◌, true};
 ghost use Rattle.ct_keep.specs.KeeperViews.{Finds, OnlyReads};
 ghost use Rattle.cat_walk.specs.Looks.{LooksUpNoText};
-ghost use Rattle.cat_walk.specs.Places.{IsNext, has_place, lesser, next_of};
+ghost use Rattle.cat_walk.specs.Places.{IsNext, has_place, next_of};
 ghost use Rattle.cat_walk.specs.Walks.{Both, Without, has_rising_places, route_of, stops_at};
 
-use crate::listed::{copy, next_listed};
+use crate::listed::{next_listed, place_copy};
 use crate::probing::{joined, stops_at};
 use crate::walks::Walk;
 use ct_keep::{KeepFault, Keeper, next_under};
 use std::alloc::Global;
-use std::cmp::Ordering;
 
 /// The next place at which a word has an entry. It takes one look-up.
 fn next_of_word<K: Keeper>(
@@ -34,20 +33,6 @@ fn next_of_word<K: Keeper>(
     }
 }
 
-/// The lesser of two places, where each may be missing.
-fn lesser(a: Option<Vec<u8>>, b: Option<Vec<u8>>) -> Option<Vec<u8>>
-    ensures { next_of result ≡ lesser (next_of a) (next_of b) }
-{
-    match (a, b) {
-        (Some(a), Some(b)) => match a.as_slice().cmp(b.as_slice()) {
-            Ordering::Less => Some(a),
-            Ordering::Equal | Ordering::Greater => Some(b),
-        },
-        (Some(a), None) => Some(a),
-        (None, b) => b,
-    }
-}
-
 /// The next place at which both walks stop: where the one stops, unless the other doesn't stop there too, and else from where the other goes on.
 #[cycle(next)]
 fn next_of_both<K: Keeper>(
@@ -65,7 +50,7 @@ fn next_of_both<K: Keeper>(
     ensures reads { OnlyReads K.view keeper.old keeper.new result }
     ensures spares { LooksUpNoText stem.now (K.view keeper.old) (K.view keeper.new) }
 {
-    let mut last = copy(alloc, after)?;
+    let mut last = place_copy(alloc, after)?;
     'steps: for _ in 0..u64::MAX {
         let Some(here) = next_place(alloc, keeper, stem, a, &last)? else {
             return Ok(None);
@@ -102,7 +87,7 @@ fn next_without<K: Keeper>(
     ensures reads { OnlyReads K.view keeper.old keeper.new result }
     ensures spares { LooksUpNoText stem.now (K.view keeper.old) (K.view keeper.new) }
 {
-    let mut last = copy(alloc, after)?;
+    let mut last = place_copy(alloc, after)?;
     'steps: for _ in 0..u64::MAX {
         let Some(here) = next_place(alloc, keeper, stem, a, &last)? else {
             return Ok(None);
@@ -120,10 +105,9 @@ fn next_without<K: Keeper>(
 ///
 /// Each step takes a look-up for each word at most, and a binary search in each list of places. Of two walks that both have to stop, each
 /// goes on behind the place at which the other stopped, so the number of steps is near twice that of the places at which the rarer one
-/// stops; and where the second mustn't stop, it is that of the places at which the first does. From one call to the next such a walk goes on
-/// where it was, so no step is made twice. Of two walks of which one has to stop, both are asked at each call, and only the lesser place is
-/// taken: one that passes places on its way to the next passes them again at each call, until the other is beyond them. So each of these two
-/// is to be settled (`settled`). It reads no text, and never answers Full.
+/// stops; and where the second mustn't stop, it is that of the places at which the first does. From one call to the next a walk goes on
+/// where it was, so no step is made twice, and all calls together take no more look-ups than a few times the words of the walk times the places of the most
+/// frequent one. It reads no text, and never answers Full.
 #[cycle(next)]
 pub fn next_place<K: Keeper>(
     alloc: Global,
@@ -142,11 +126,6 @@ pub fn next_place<K: Keeper>(
         Walk::Word(word) => next_of_word(alloc, keeper, stem, word.as_slice(), after),
         Walk::Places(places) => Ok(next_listed(alloc, places.as_slice(), after)?),
         Walk::Both(a, b) => next_of_both(alloc, keeper, stem, a, b, after),
-        Walk::Either(a, b) => {
-            let first = next_place(alloc, keeper, stem, a, after)?;
-            let second = next_place(alloc, keeper, stem, b, after)?;
-            Ok(lesser(first, second))
-        }
         Walk::Without(a, b) => next_without(alloc, keeper, stem, a, b, after),
     }
 }

@@ -11,7 +11,7 @@ use Rattle.ix_kinds.specs.Indextypes.{IndexOf}
 use Rattle.ix_context.specs.Indexes.{texts_in}
 use Rattle.cat_index.specs.Filings.{text_words}
 use Rattle.cat_index.specs.Catalogues.{CatalogueBody}
-use Rattle.cat_search.specs.Queries.{is_plain}
+use Rattle.cat_search.specs.Queries.{is_boolean}
 use Rattle.cat_search.specs.Meeting.{row_meets, some_meets, met_rows}
 use Rattle.cat_search.specs.Words.{has_slot_word}
 use Rattle.cat_search.specs.Looking.{has_slot_key}
@@ -32,17 +32,17 @@ filters_fewer test weaker implies (r ∷ rs) = go (test r) refl (weaker r) refl 
     go false is false so rest = rest
 
 module _ (t : Table) (x : IndexOf CatalogueBody) (q : Reduced) (prefs : IsPrefs x.prefs) (short : (r : ℤ) (text : List ℕ) → texts_in t x.column r ≡ Some text → length text ≤ 2 ^ 24)
-    (plain : is_plain q ≡ true) (sound : is_sound q ≡ true) where
+    (boolean : is_boolean q ≡ true) (sound : is_sound q ≡ true) where
   met_has_word : (r : ℤ) → row_meets t x q r ≡ true → has_slot_key t x q r ≡ true
   met_has_word r met = go (texts_in t x.column r) refl met
     where
       go : (o : Option (List ℕ)) → texts_in t x.column r ≡ o → some_meets x.prefs q o ≡ true → has_slot_word q (text_words x.prefs o) ≡ true
       go None seen met = cc
-      go (Some text) seen met = may_has_slot (text_words x.prefs (Some text)) q sound (words_rule_out x.prefs text q prefs (short r text seen) plain sound met)
+      go (Some text) seen met = may_has_slot (text_words x.prefs (Some text)) q sound (words_rule_out x.prefs text q prefs (short r text seen) boolean sound met)
 
 pub met_rows_have_words : MetRowsHaveWords
-met_rows_have_words t x q prefs short plain sound = record {
+met_rows_have_words t x q prefs short boolean sound = record {
   each = λ r among.
-      met_has_word t x q prefs short plain sound r (All-contains (λ (k : ℤ). row_meets t x q k ≡ true) (met_rows t x q) r (filter_passes (row_meets t x q) (row_keys_of t)) among);
-  few = filters_fewer (row_meets t x q) (has_slot_key t x q) (met_has_word t x q prefs short plain sound) (row_keys_of t);
+      met_has_word t x q prefs short boolean sound r (All-contains (λ (k : ℤ). row_meets t x q k ≡ true) (met_rows t x q) r (filter_passes (row_meets t x q) (row_keys_of t)) among);
+  few = filters_fewer (row_meets t x q) (has_slot_key t x q) (met_has_word t x q prefs short boolean sound) (row_keys_of t);
 }

@@ -11,7 +11,7 @@ use Rattle.q_tree.specs.Slots.{takes}
 use Rattle.q_tree.specs.ReducedQueries.{Reduced, Term, Both, Weight, Above, Near, Within, Define}
 use Rattle.q_tree.specs.Scores.{DocPostings, phrase_slots, last_position}
 use Rattle.q_tree.specs.Soundness.{is_sound, is_phrase}
-use Rattle.cat_search.specs.Queries.{holds, is_plain, phrase_holds}
+use Rattle.cat_search.specs.Queries.{holds, is_boolean, phrase_holds}
 use Rattle.cat_search.specs.Words.{all_taken, may_take, takes_one, is_exact, is_single, phrase_may, may_meet, has_slot_word, walked_slots}
 
 -- whether a list has an element
@@ -122,8 +122,8 @@ module _ (d : DocPostings) (words : List (List ℕ)) (are : AreWordsOf d words) 
   phrase_tells (Takes keys patterns ∷ slot ∷ phrase) sound single = let long = eqb-true (length (Takes keys patterns ∷ slot ∷ phrase)) 1 single in absurd (omega (arith, long))
 
   -- where each phrase has one slot, the words tell
-  pub tells : (q : Reduced) → is_plain q ≡ true → is_sound q ≡ true → is_exact q ≡ true → holds q d ≡ may_meet q words
-  tells (Term phrases) plain sound exact =
+  pub tells : (q : Reduced) → is_boolean q ≡ true → is_sound q ≡ true → is_exact q ≡ true → holds q d ≡ may_meet q words
+  tells (Term phrases) boolean sound exact =
       any_same (phrase_holds d) (phrase_may words) phrases (both phrases (and_parts (nat_le 1 (length phrases)) (list_all is_phrase phrases) sound).1 exact)
     where
       both : (ps : List (List Slot)) → list_all is_phrase ps ≡ true → list_all is_single ps ≡ true → AllByRecursion (λ (phrase : List Slot). phrase_holds d phrase ≡ phrase_may words phrase) ps
@@ -132,51 +132,51 @@ module _ (d : DocPostings) (words : List (List ℕ)) (are : AreWordsOf d words) 
           let a = and_parts (is_phrase p) (list_all is_phrase ps) all in
           let s = and_parts (is_single p) (list_all is_single ps) single in
           (phrase_tells p a.0 s.0, both ps a.1 s.1)
-  tells (Both And a b) plain sound exact =
-      let p = and_parts (is_plain a) (is_plain b) plain in
+  tells (Both And a b) boolean sound exact =
+      let p = and_parts (is_boolean a) (is_boolean b) boolean in
       let s = and_parts (is_sound a) (is_sound b) sound in
       let e = and_parts (is_exact a) (is_exact b) exact in
       ap (λ (t : Bool). t && holds b d) (tells a p.0 s.0 e.0) ∙ ap (λ (t : Bool). may_meet a words && t) (tells b p.1 s.1 e.1)
-  tells (Both Or a b) plain sound exact =
-      let p = and_parts (is_plain a) (is_plain b) plain in
+  tells (Both Or a b) boolean sound exact =
+      let p = and_parts (is_boolean a) (is_boolean b) boolean in
       let s = and_parts (is_sound a) (is_sound b) sound in
       let e = and_parts (is_exact a) (is_exact b) exact in
       ap (λ (t : Bool). t || holds b d) (tells a p.0 s.0 e.0) ∙ ap (λ (t : Bool). may_meet a words || t) (tells b p.1 s.1 e.1)
-  tells (Both Not a b) plain sound exact =
-      let p = and_parts (is_plain a) (is_plain b) plain in
+  tells (Both Not a b) boolean sound exact =
+      let p = and_parts (is_boolean a) (is_boolean b) boolean in
       let s = and_parts (is_sound a) (is_sound b) sound in
       let e = and_parts (is_exact a) (is_exact b) exact in
       ap (λ (t : Bool). t && not (holds b d)) (tells a p.0 s.0 e.0)
       ∙ ap (λ (t : Bool). may_meet a words && not t) (tells b p.1 s.1 e.1)
       ∙ sym (ap (λ (t : Bool). may_meet a words && not (t && may_meet b words)) e.1)
-  tells (Both Minus a b) plain sound exact = cc
-  tells (Weight w a) plain sound exact = cc
-  tells (Above n a) plain sound exact = cc
-  tells (Near operands span ordered) plain sound exact = cc
-  tells (Within place a) plain sound exact = cc
-  tells (Define phrases sum) plain sound exact = cc
+  tells (Both Minus a b) boolean sound exact = cc
+  tells (Weight w a) boolean sound exact = cc
+  tells (Above n a) boolean sound exact = cc
+  tells (Near operands span ordered) boolean sound exact = cc
+  tells (Within place a) boolean sound exact = cc
+  tells (Define phrases sum) boolean sound exact = cc
 
   -- a document of which the query holds has words that may meet it
-  pub rules_out : (q : Reduced) → is_plain q ≡ true → is_sound q ≡ true → holds q d ≡ true → may_meet q words ≡ true
-  rules_out (Term phrases) plain sound h = any_weaker (phrase_holds d) (phrase_may words) phrases (each phrases) h
+  pub rules_out : (q : Reduced) → is_boolean q ≡ true → is_sound q ≡ true → holds q d ≡ true → may_meet q words ≡ true
+  rules_out (Term phrases) boolean sound h = any_weaker (phrase_holds d) (phrase_may words) phrases (each phrases) h
     where
       each : (ps : List (List Slot)) → AllByRecursion (λ (phrase : List Slot). phrase_holds d phrase ≡ true → phrase_may words phrase ≡ true) ps
       each [] = tt
       each (p ∷ ps) = (phrase_rules p, each ps)
-  rules_out (Both And a b) plain sound h =
-      let p = and_parts (is_plain a) (is_plain b) plain in
+  rules_out (Both And a b) boolean sound h =
+      let p = and_parts (is_boolean a) (is_boolean b) boolean in
       let s = and_parts (is_sound a) (is_sound b) sound in
       let t = and_parts (holds a d) (holds b d) h in
       and_from (may_meet a words) (may_meet b words) (rules_out a p.0 s.0 t.0) (rules_out b p.1 s.1 t.1)
-  rules_out (Both Or a b) plain sound h =
-      let p = and_parts (is_plain a) (is_plain b) plain in
+  rules_out (Both Or a b) boolean sound h =
+      let p = and_parts (is_boolean a) (is_boolean b) boolean in
       let s = and_parts (is_sound a) (is_sound b) sound in
       elim (or_cases (holds a d) (holds b d) h) [
         | inl one ↦ or_left (may_meet a words) (may_meet b words) (rules_out a p.0 s.0 one)
         | inr other ↦ or_right (may_meet a words) (may_meet b words) (rules_out b p.1 s.1 other)
       ]
-  rules_out (Both Not a b) plain sound h =
-      let p = and_parts (is_plain a) (is_plain b) plain in
+  rules_out (Both Not a b) boolean sound h =
+      let p = and_parts (is_boolean a) (is_boolean b) boolean in
       let s = and_parts (is_sound a) (is_sound b) sound in
       let t = and_parts (holds a d) (not (holds b d)) h in
       and_from (may_meet a words) (not (is_exact b && may_meet b words)) (rules_out a p.0 s.0 t.0) (taken (is_exact b) refl (tells b p.1 s.1) t.1)
@@ -184,12 +184,12 @@ module _ (d : DocPostings) (words : List (List ℕ)) (are : AreWordsOf d words) 
       taken : (e : Bool) → is_exact b ≡ e → (is_exact b ≡ true → holds b d ≡ may_meet b words) → not (holds b d) ≡ true → not (e && may_meet b words) ≡ true
       taken true is same h = ap not (sym (same is)) ∙ h
       taken false is same h = refl
-  rules_out (Both Minus a b) plain sound h = cc
-  rules_out (Weight w a) plain sound h = cc
-  rules_out (Above n a) plain sound h = cc
-  rules_out (Near operands span ordered) plain sound h = cc
-  rules_out (Within place a) plain sound h = cc
-  rules_out (Define phrases sum) plain sound h = cc
+  rules_out (Both Minus a b) boolean sound h = cc
+  rules_out (Weight w a) boolean sound h = cc
+  rules_out (Above n a) boolean sound h = cc
+  rules_out (Near operands span ordered) boolean sound h = cc
+  rules_out (Within place a) boolean sound h = cc
+  rules_out (Define phrases sum) boolean sound h = cc
 
 -- ---- words that may meet a query
 

@@ -90,7 +90,7 @@ words_of_text p text is short = record {
 -- ---- the laws
 
 pub words_rule_out : WordsRuleOut
-words_rule_out p text q is short plain sound h = rules_out (scanned_postings p text) (text_words p (Some text)) (words_of_text p text is short) q plain sound h
+words_rule_out p text q is short boolean sound h = rules_out (scanned_postings p text) (text_words p (Some text)) (words_of_text p text is short) q boolean sound h
 
 pub words_tell : WordsTell
-words_tell p text q is short plain sound exact = tells (scanned_postings p text) (text_words p (Some text)) (words_of_text p text is short) q plain sound exact
+words_tell p text q is short boolean sound exact = tells (scanned_postings p text) (text_words p (Some text)) (words_of_text p text is short) q boolean sound exact

@@ -9,7 +9,7 @@ use Rattle.q_tree.specs.declared.flats.Slot.{Slot}
 use Rattle.q_tree.specs.declared.queries.Op.TheVariants.{Or, And, Not, Minus}
 use Rattle.q_tree.specs.ReducedQueries.{Term, Both, Weight, Above, Near, Within, Define}
 use Rattle.q_tree.specs.Scores.{DocPostings, phrase_slots, term_slots, unless, last_position, whole_score}
-use Rattle.cat_search.specs.Queries.{holds, is_plain, phrase_holds, HoldsByScore}
+use Rattle.cat_search.specs.Queries.{holds, is_boolean, phrase_holds, HoldsByScore}
 
 -- ---- numbers above 0
 
@@ -74,25 +74,25 @@ term_scores d (phrase ∷ phrases) =
 -- ---- the law
 
 pub holds_by_score : HoldsByScore
-holds_by_score (Term phrases) d plain = sym (term_scores d phrases)
-holds_by_score (Both And a b) d plain =
-    let p = and_parts (is_plain a) (is_plain b) plain in
+holds_by_score (Term phrases) d boolean = sym (term_scores d phrases)
+holds_by_score (Both And a b) d boolean =
+    let p = and_parts (is_boolean a) (is_boolean b) boolean in
     ap (λ (t : Bool). t && holds b d) (holds_by_score a d p.0)
     ∙ ap (λ (t : Bool). nat_lt 0 (whole_score a d) && t) (holds_by_score b d p.1)
     ∙ sym (some_min (whole_score a d) (whole_score b d))
-holds_by_score (Both Or a b) d plain =
-    let p = and_parts (is_plain a) (is_plain b) plain in
+holds_by_score (Both Or a b) d boolean =
+    let p = and_parts (is_boolean a) (is_boolean b) boolean in
     ap (λ (t : Bool). t || holds b d) (holds_by_score a d p.0)
     ∙ ap (λ (t : Bool). nat_lt 0 (whole_score a d) || t) (holds_by_score b d p.1)
     ∙ sym (some_max (whole_score a d) (whole_score b d))
-holds_by_score (Both Not a b) d plain =
-    let p = and_parts (is_plain a) (is_plain b) plain in
+holds_by_score (Both Not a b) d boolean =
+    let p = and_parts (is_boolean a) (is_boolean b) boolean in
     ap (λ (t : Bool). t && not (holds b d)) (holds_by_score a d p.0)
     ∙ ap (λ (t : Bool). nat_lt 0 (whole_score a d) && not t) (holds_by_score b d p.1)
     ∙ sym (some_unless (whole_score a d) (whole_score b d))
-holds_by_score (Both Minus a b) d plain = cc
-holds_by_score (Weight w a) d plain = cc
-holds_by_score (Above n a) d plain = cc
-holds_by_score (Near operands span ordered) d plain = cc
-holds_by_score (Within place a) d plain = cc
-holds_by_score (Define phrases sum) d plain = cc
+holds_by_score (Both Minus a b) d boolean = cc
+holds_by_score (Weight w a) d boolean = cc
+holds_by_score (Above n a) d boolean = cc
+holds_by_score (Near operands span ordered) d boolean = cc
+holds_by_score (Within place a) d boolean = cc
+holds_by_score (Define phrases sum) d boolean = cc

@@ -11,4 +11,4 @@ score_alone-requires-clause-entries c =
 pub returns : goal.returns
 returns c =
     score_tells c.args.prefs.now c.args.text.now c.keep_rules.ensures c.requires.short c.deref.result.now (c.deref.ensures.value ∙ c.in_ok-entries.ensures ∙ ap entries c.in_ok-document.ensures)
-    (reduced_of c.args.flat.now) c.requires.plain c.requires.sound c.in_ok-score.score c.in_ok-score.ensures
+    (reduced_of c.args.flat.now) c.requires.query.boolean c.requires.query.sound c.in_ok-score.score c.in_ok-score.ensures

@@ -1,11 +1,11 @@
 use Rattle.std.proofs.Common.{sym, ap, subst, ◌∙◌}
 use Rattle.ct_keep.specs.laws.Composing.{reads_none, reads_on}
-use Rattle.cat_walk.specs.Places.{IsNext, has_place, next_of}
-use Rattle.cat_walk.specs.Walks.{Route, Both, Either, Without, route_of, stops_at}
+use Rattle.cat_walk.specs.Places.{has_place}
+use Rattle.cat_walk.specs.Walks.{Both, Without, route_of, stops_at}
 use Rattle.cat_walk.proofs.Steps.{nowhere_yet, HoldsNowhere}
-use Rattle.cat_walk.proofs.Parts.{first_ends, first_stops, first_passes, second_ends, second_stops, second_passes, without_ends, without_stops, without_passes, lesser_is_next}
+use Rattle.cat_walk.proofs.Parts.{first_ends, first_stops, first_passes, second_ends, second_stops, second_passes, without_ends, without_stops, without_passes}
 use Rattle.cat_walk.specs.laws.Sparing.{spares_none, spares_on}
-use Rattle.cat_walk.proofs.Arms.{arm_next, both_route, either_route, next_here, test_here, without_route, word_next, word_route}
+use Rattle.cat_walk.proofs.Arms.{arm_next, both_route, next_here, test_here, without_route, word_next, word_route}
 use Rattle.cat_walk.proofs.stepping.+next.Goals as goal
 
 -- ---- both stop
@@ -146,17 +146,6 @@ pub next_place-returns-in-Both-clause-next : goal.next_place-returns-in-Both-cla
 next_place-returns-in-Both-clause-next g t c = λ m told.
     arm_next (has_place m c.args.stem.now) c.args.after.now _ _ c.next_of_both.result
     (both_route _ c.in-Both.a.value c.in-Both.b.value _ _ (ap route_of c.in-Both.is) c.deref.ensures c.deref-in-Both.ensures) (c.next_of_both.ensures.next m told)
-
-pub next_place-returns-in_ok-second-in-Either-clause-next : goal.next_place-returns-in_ok-second-in-Either-clause-next
-next_place-returns-in_ok-second-in-Either-clause-next g t c = λ m told.
-    let has = has_place m c.args.stem.now in
-    let x = c.deref-in-Either.result.now in
-    let y = c.deref-in-Either-2.result.now in
-    let first = c.in_ok-first-in-Either.ensures.next m told in
-    let second = c.in_ok-second-in-Either.ensures.next m (c.in_ok-first-in-Either.ensures.reads.content ∙ told) in
-    subst (λ (w : Route). IsNext (stops_at has w) c.args.after.now (next_of c.lesser.result)) (sym (either_route _ c.in-Either.a.value c.in-Either.b.value x y (ap route_of c.in-Either.is) c.deref-in-Either.ensures c.deref-in-Either-2.ensures))
-    (subst (λ o. IsNext (stops_at has (Either (route_of x) (route_of y))) c.args.after.now o) (sym c.lesser.ensures)
-    (lesser_is_next has (route_of x) (route_of y) c.args.after.now (next_of c.in_ok-first-in-Either.first) (next_of c.in_ok-second-in-Either.second) first second))
 
 pub next_place-returns-in-Without-clause-next : goal.next_place-returns-in-Without-clause-next
 next_place-returns-in-Without-clause-next g t c = λ m told.

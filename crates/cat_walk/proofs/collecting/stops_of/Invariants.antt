@@ -3,7 +3,7 @@ use Rattle.ct_keep.specs.KeeperViews.{ReadsKeeper, Told}
 use Rattle.cat_walk.specs.Looks.{LooksUpNoText}
 use Rattle.cat_walk.specs.Places.{ArePlacesUpTo, has_place}
 use Rattle.cat_walk.specs.Walks.{route_of, stops_at}
-use Rattle.cat_walk.proofs.settling.stops_of.Given as goal
+use Rattle.cat_walk.proofs.collecting.stops_of.Given as goal
 
 abbrev pub invariant-steps : goal.invariant-steps
 invariant-steps g l = record {

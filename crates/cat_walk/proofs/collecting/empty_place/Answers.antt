@@ -2,7 +2,7 @@ use Rattle.std.proofs.Common.{[], ◌∷◌, ◌++◌, List, ℕ, sym, ap, ◌�
 use Rattle.cat_walk.specs.Places.{has_place}
 use Rattle.cat_walk.specs.Walks.{route_of, stops_at}
 use Rattle.cat_walk.proofs.GatheredStops.{none_there, one_there}
-use Rattle.cat_walk.proofs.settling.empty_place.Goals as goal
+use Rattle.cat_walk.proofs.collecting.empty_place.Goals as goal
 
 pub returns-then-not-branch-clause-places : goal.returns-then-not-branch-clause-places
 returns-then-not-branch-clause-places g c = λ m told.

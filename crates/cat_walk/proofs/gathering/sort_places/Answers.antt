@@ -13,8 +13,8 @@ use Rattle.ct_entry.specs.Keys.{same_list}
 use Rattle.cat_walk.specs.Places.{is_listed, places_rise}
 use Rattle.cat_walk.proofs.Listing.{rise_from_sorted}
 use Rattle.cat_walk.proofs.Sorting.{listed_once}
-use Rattle.cat_walk.proofs.gathering.sort_once.Goals as goal
-use Rattle.cat_walk.proofs.gathering.sort_once.Goals.{After-dedup_by}
+use Rattle.cat_walk.proofs.gathering.sort_places.Goals as goal
+use Rattle.cat_walk.proofs.gathering.sort_places.Goals.{After-dedup_by}
 
 once : (c : After-dedup_by) → c.dedup_by.new.self.items ≡ dedup bytes_eq c.sort_unstable_by.new.self.items
 once c = dedup_same _ bytes_eq _ (λ x y b f' x' y' k. search (rules, of_calls)) _ _ c.dedup_by.ensures.filtered

@@ -5,7 +5,7 @@ use Rattle.cat_walk.specs.Walks.{route_of, stops_at}
 use Rattle.cat_walk.proofs.Arms.{next_here}
 use Rattle.cat_walk.specs.laws.Sparing.{spares_on}
 use Rattle.cat_walk.proofs.GatheredStops.{next_there, ends_alike}
-use Rattle.cat_walk.proofs.settling.stops_of.Goals as goal
+use Rattle.cat_walk.proofs.collecting.stops_of.Goals as goal
 
 pub steps-init : goal.steps-init
 steps-init g c = record {
@@ -29,5 +29,5 @@ steps-preserved g c = record {
 pub returns-in_default-clause-places : goal.returns-in_default-clause-places
 returns-in_default-clause-places g c = λ m told.
     let has = has_place m c.args.stem.now in
-    ends_alike has (route_of c.args.walk.now) c.steps.last.items c.steps.places.items c.sort_once.new.places.items (c.steps.invariant.stops m told)
-    (next_here (stops_at has (route_of c.args.walk.now)) _ _ _ _ c.deref.ensures.value c.in_default.is (c.in_ok-here.ensures.next m (c.steps.invariant.reads.content ∙ told))) c.sort_once.ensures.same
+    ends_alike has (route_of c.args.walk.now) c.steps.last.items c.steps.places.items (c.steps.invariant.stops m told)
+    (next_here (stops_at has (route_of c.args.walk.now)) _ _ _ _ c.deref.ensures.value c.in_default.is (c.in_ok-here.ensures.next m (c.steps.invariant.reads.content ∙ told)))

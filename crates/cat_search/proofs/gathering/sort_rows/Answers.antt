@@ -10,8 +10,8 @@ use Rattle.ct_base.specs.declared.numbers.RowKey.{RowKey}
 use Rattle.ct_entry.specs.laws.Rows.{keys_rise_by}
 use Rattle.cat_search.specs.SubIndexes.{is_row_among}
 use Rattle.cat_search.proofs.RowLists.{among_rows, kept_once, key_cmp, keys_of, rise_from_sorted}
-use Rattle.cat_search.proofs.gathering.sort_once.Goals as goal
-use Rattle.cat_search.proofs.gathering.sort_once.Goals.{After-dedup_by}
+use Rattle.cat_search.proofs.gathering.sort_rows.Goals as goal
+use Rattle.cat_search.proofs.gathering.sort_rows.Goals.{After-dedup_by}
 
 once : (c : After-dedup_by) → c.dedup_by.new.self.items ≡ dedup (eq_by_cmp key_cmp) c.sort_unstable_by.new.self.items
 once c = dedup_same _ (eq_by_cmp key_cmp) _ (λ x y b f' x' y' k. search (rules, of_calls)) _ _ c.dedup_by.ensures.filtered
