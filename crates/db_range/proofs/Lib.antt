@@ -1,0 +1,4 @@
+pub mod Covering
+pub mod RowValues
+pub mod Steps
+pub mod BestSteps

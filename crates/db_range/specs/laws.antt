@@ -1,0 +1,2 @@
+-- Laws of the places of a catalogue's rows.
+pub mod Filings
