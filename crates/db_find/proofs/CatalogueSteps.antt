@@ -10,6 +10,7 @@ use Rattle.ct_keep.specs.declared.keepers.KeepFault.{KeepFault}
 use Rattle.ct_keep.specs.KeeperViews.{Counts}
 use Rattle.ct_keep.specs.Looks.{no_looks, RisesBy}
 use Rattle.tx_settings.specs.declared.preferences.Prefs.{Prefs}
+use Rattle.st_parse.specs.declared.statements.Cond.{Cond}
 use Rattle.tb_table.specs.declared.columns.Column.{Column}
 use Rattle.tb_table.specs.Tables.{Tables}
 use Rattle.q_tree.specs.declared.flats.Flat.{Flat}
@@ -20,8 +21,7 @@ use Rattle.ix_search.specs.Hits.{hit_rows}
 use Rattle.cat_where.specs.declared.stages.Where.{Where}
 use Rattle.cat_where.specs.Verdicts.{verdict as where_verdict}
 use Rattle.cat_index.specs.Catalogues.{CatalogueBody}
-use Rattle.cat_search.specs.Contents.{AreMetRows}
-use Rattle.cat_search.specs.Looking.{ReadsTexts, slot_rows}
+use Rattle.cat_search.specs.Looking.{ReadsTexts}
 use Rattle.db_cond.specs.Faults.{Refusal}
 use Rattle.db_find.specs.declared.finding.Found.{Found}
 use Rattle.db_find.specs.declared.finding.Found.TheVariants.{Refused as RefusedSearch, Rows}
@@ -32,10 +32,9 @@ use Rattle.db_find.specs.declared.structured.Structured.TheVariants.{Refused as 
 use Rattle.db_find.specs.Querying.{Meaning, Finds, Refuses, refusal_in}
 use Rattle.db_find.specs.Meanings.{Means}
 use Rattle.db_find.specs.Structured.{MeansStructured, structured_refusal, where_found}
-use Rattle.db_find.specs.Catalogues.{catalogue_refusal, catalogue_rows, catalogue_texts, rows_meant, texts_meant, unless_refused, unscored, words_meaning}
-use Rattle.db_find.specs.Finding.{FindsByWords, FindsMeant, GivesFound, GivesMeant}
-use Rattle.db_find.specs.Looking.{ReadsMeant}
-use Rattle.db_find.proofs.Enough.{all_are_enough, unscored_rise}
+use Rattle.db_find.specs.Catalogues.{catalogue_refusal, catalogue_rows, catalogue_texts, rows_meant, texts_meant, unless_refused, unscored, catsearch_meaning}
+use Rattle.db_find.specs.Finding.{AreEnough, FindsByTexts, FindsMeant, GivesFound, GivesMeant, meant_unscored}
+use Rattle.db_find.proofs.Enough.{all_are_enough}
 
 -- ---- texts that are read
 
@@ -47,12 +46,22 @@ reads_behind most old mid new none reads = record { texts = omega (arith, none.t
 
 -- ---- rows
 
--- those that a query finds, as code holds it
-pub met_by : (ts : Tables) (x : IndexOf CatalogueBody) (flat : Option Flat) (f : Flat) (result : Result (Vec RowKey Global) KeepFault) → flat ≡ Some f → IfOk result (AreMetRows f (table_at ts x.table) x) → FindsMeant ts x flat result
-met_by ts x flat f result is met = subst (λ (o : Option Flat). FindsMeant ts x o result) (sym is) met
+-- as many of those that a query finds, as code holds it, as conditions need
+pub met_by : (ts : Tables) (x : IndexOf CatalogueBody) (flat : Option Flat) (f : Flat) (conds : List Cond) (result : Result (Vec RowKey Global) KeepFault) → flat ≡ Some f → FindsMeant ts x (Some f) conds result → FindsMeant ts x flat conds result
+met_by ts x flat f conds result is met = subst (λ (o : Option Flat). FindsMeant ts x o conds result) (sym is) met
 
-pub read_by : (ts : Tables) (x : IndexOf CatalogueBody) (flat : Option Flat) (f : Flat) (old new : Counts) → flat ≡ Some f → ReadsTexts (slot_rows (table_at ts x.table) x (reduced_of f)) old new → ReadsMeant ts x flat old new
-read_by ts x flat f old new is reads = subst (λ (o : Option Flat). ReadsMeant ts x o old new) (sym is) reads
+pub no_query : (ts : Tables) (x : IndexOf CatalogueBody) (flat : Option Flat) (conds : List Cond) (rows : List RowKey) → flat ≡ None → rows ≡ []
+    → AreEnough (table_at ts x.table) conds (meant_unscored ts x flat) (map (λ r. unscored r.0) rows)
+no_query ts x flat conds rows is none =
+    let t = table_at ts x.table in
+    subst (λ (l : List RowKey). AreEnough t conds (meant_unscored ts x flat) (map (λ r. unscored r.0) l)) (sym none)
+    (subst (λ (o : Option Flat). AreEnough t conds (meant_unscored ts x o) []) (sym is) (all_are_enough t conds [] [] refl refl))
+
+abbrev flat_texts : Tables → IndexOf CatalogueBody → Option Flat → ℕ
+flat_texts ts x flat = texts_meant (table_at ts x.table) x (Finds (option_map reduced_of flat))
+
+pub read_by : (ts : Tables) (x : IndexOf CatalogueBody) (flat : Option Flat) (f : Flat) (old new : Counts) → flat ≡ Some f → ReadsTexts (flat_texts ts x (Some f)) old new → ReadsTexts (flat_texts ts x flat) old new
+read_by ts x flat f old new is reads = subst (λ (o : Option Flat). ReadsTexts (flat_texts ts x o) old new) (sym is) reads
 
 pub keys_unscored : (rows : List RowKey) → map (λ r. unscored r.0) rows ≡ map unscored (map (λ r. r.0) rows)
 keys_unscored [] = refl
@@ -64,19 +73,19 @@ module _ (ts : Tables) (x : IndexOf CatalogueBody) (p : Prefs) (its_prefs : x.pr
   abbrev its_refusal : Option Refusal
   its_refusal = structured_refusal (table_at ts x.table).columns x.body.names (where_verdict (chars structured))
 
-  by_query : (meaning : Meaning) → words_meaning p query ≡ meaning → catalogue_refusal ts x query structured ≡ option_or (refusal_in meaning) its_refusal
-  by_query meaning is = ap (λ (q : Prefs). option_or (refusal_in (words_meaning q query)) its_refusal) its_prefs ∙ ap (λ (w : Meaning). option_or (refusal_in w) its_refusal) is
+  by_query : (meaning : Meaning) → catsearch_meaning p query ≡ meaning → catalogue_refusal ts x query structured ≡ option_or (refusal_in meaning) its_refusal
+  by_query meaning is = ap (λ (q : Prefs). option_or (refusal_in (catsearch_meaning q query)) its_refusal) its_prefs ∙ ap (λ (w : Meaning). option_or (refusal_in w) its_refusal) is
 
   -- the query text is refused
-  pub refused_query : (rows : List (ℤ × ℕ)) (w : Where) (held : Held) (line : Vec ℕ Global) → held ≡ RefusedQuery line → Means held (words_meaning p query) → GivesFound (catalogue_refusal ts x query structured) (table_at ts x.table) rows w (RefusedSearch line)
+  pub refused_query : (rows : List (ℤ × ℕ)) (w : Where) (held : Held) (line : Vec ℕ Global) → held ≡ RefusedQuery line → Means held (catsearch_meaning p query) → GivesFound (catalogue_refusal ts x query structured) (table_at ts x.table) rows w (RefusedSearch line)
   refused_query rows w held line is means =
-      let told = subst (λ (h : Held). Means h (words_meaning p query)) is means in
+      let told = subst (λ (h : Held). Means h (catsearch_meaning p query)) is means in
       (told.0, (by_query (Refuses told.0) told.1.0, told.1.1))
 
   module _ (columns : List Column) (subs : List (List (List ℕ))) (are : (table_at ts x.table).columns ≡ columns) (names : x.body.names ≡ subs)
-      (held : Held) (flat : Option Flat) (finds : held ≡ FindsQuery flat) (means : Means held (words_meaning p query)) where
-    meant : words_meaning p query ≡ Finds (option_map reduced_of flat)
-    meant = subst (λ (h : Held). Means h (words_meaning p query)) finds means
+      (held : Held) (flat : Option Flat) (finds : held ≡ FindsQuery flat) (means : Means held (catsearch_meaning p query)) where
+    meant : catsearch_meaning p query ≡ Finds (option_map reduced_of flat)
+    meant = subst (λ (h : Held). Means h (catsearch_meaning p query)) finds means
 
     -- the structured query is refused, or it isn't
     by_structured : (o : Option Refusal) → structured_refusal columns subs (where_verdict (chars structured)) ≡ o → catalogue_refusal ts x query structured ≡ o
@@ -95,24 +104,29 @@ module _ (ts : Tables) (x : IndexOf CatalogueBody) (p : Prefs) (its_prefs : x.pr
       passes : catalogue_refusal ts x query structured ≡ None
       passes = by_structured None its_where.0
 
-      its_meaning : words_meaning x.prefs query ≡ Finds (option_map reduced_of flat)
-      its_meaning = ap (λ (q : Prefs). words_meaning q query) its_prefs ∙ meant
+      its_meaning : catsearch_meaning x.prefs query ≡ Finds (option_map reduced_of flat)
+      its_meaning = ap (λ (q : Prefs). catsearch_meaning q query) its_prefs ∙ meant
 
       -- the texts that are read are those that the query needs
       pub reads_meant : (old new : Counts) → ReadsTexts (texts_meant (table_at ts x.table) x (Finds (option_map reduced_of flat))) old new → ReadsTexts (catalogue_texts ts x query structured) old new
       reads_meant old new reads =
           let same : catalogue_texts ts x query structured ≡ texts_meant (table_at ts x.table) x (Finds (option_map reduced_of flat)) =
-          ap (λ (o : Option Refusal). unless_refused o (texts_meant (table_at ts x.table) x (words_meaning x.prefs query))) passes ∙ ap (texts_meant (table_at ts x.table) x) its_meaning in
+          ap (λ (o : Option Refusal). unless_refused o (texts_meant (table_at ts x.table) x (catsearch_meaning x.prefs query))) passes ∙ ap (texts_meant (table_at ts x.table) x) its_meaning in
           subst (λ (n : ℕ). ReadsTexts n old new) (sym same) reads
 
-      -- the rows are all that there are
+      -- the rows are as many as that needs
       gives : (found : Found) → GivesMeant ts x flat w found → GivesFound (catalogue_refusal ts x query structured) (table_at ts x.table) (catalogue_rows ts x query) (where_found (where_verdict (chars structured))) found
       gives (RefusedSearch line) given = absurd given
       gives (Rows hits asked) given =
           let t = table_at ts x.table in
-          let conds = (where_found (where_verdict (chars structured))).conds in
-          let all : hit_rows hits.items ≡ catalogue_rows ts x query = given.1 ∙ ap (map unscored) (sym (ap (rows_meant t x) its_meaning)) in
-          (passes, (given.0 ∙ its_where.1, all_are_enough t conds (catalogue_rows ts x query) (hit_rows hits.items) all (unscored_rise t x (words_meaning x.prefs query))))
+          let all : meant_unscored ts x flat ≡ catalogue_rows ts x query = ap (λ (m : Meaning). map unscored (rows_meant t x m)) (sym its_meaning) in (
+            passes,
+            (
+              given.0 ∙ its_where.1,
+              subst (λ (v : Where). AreEnough t v.conds (catalogue_rows ts x query) (hit_rows hits.items)) its_where.1
+                  (subst (λ (l : List (ℤ × ℕ)). AreEnough t w.conds l (hit_rows hits.items)) all given.1),
+            ),
+          )
 
-      pub gives_meant : (result : Result Found KeepFault) → IfOk result (GivesMeant ts x flat w) → FindsByWords ts x query structured result
+      pub gives_meant : (result : Result Found KeepFault) → IfOk result (GivesMeant ts x flat w) → FindsByTexts ts x query structured result
       gives_meant result given = IfOk-weaker result _ _ gives given

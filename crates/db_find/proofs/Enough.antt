@@ -17,11 +17,9 @@ use Rattle.ix_kinds.specs.Rows.{table_at}
 use Rattle.ix_kinds.specs.Indextypes.{IndexOf}
 use Rattle.ix_context.specs.Indexes.{ContextIndex, texts_in}
 use Rattle.ix_search.specs.Finding.{query_score, scored, found_at, found}
-use Rattle.cat_index.specs.Catalogues.{CatalogueBody}
-use Rattle.cat_search.specs.laws.Met.{met_rows_rise}
 use Rattle.db_rows.specs.Meeting.{key_meets}
 use Rattle.db_find.specs.Querying.{Meaning, Refuses, Finds}
-use Rattle.db_find.specs.Catalogues.{rows_meant, unscored}
+use Rattle.db_find.specs.Catalogues.{unscored}
 use Rattle.db_find.specs.Finding.{AreEnough, found_by}
 
 pub all_are_enough : (t : Table) (conds : List Cond) (rows enough : List (ℤ × ℕ)) → enough ≡ rows → keys_rise_by int_cmp (map (λ h. h.0) rows) ≡ true → AreEnough t conds rows enough
@@ -84,14 +82,6 @@ found_by_rise ts x (Finds (Some q)) (Some n) = found_rise (table_at ts x.table) 
 
 -- ---- CATSEARCH
 
-meant_rise : (t : Table) (x : IndexOf CatalogueBody) (meaning : Meaning) → keys_rise_by int_cmp (rows_meant t x meaning) ≡ true
-meant_rise t x (Refuses refusal) = refl
-meant_rise t x (Finds None) = refl
-meant_rise t x (Finds (Some q)) = met_rows_rise t x q
-
-unscored_keys : (rows : List ℤ) → map (λ h. h.0) (map unscored rows) ≡ rows
+pub unscored_keys : (rows : List ℤ) → map (λ h. h.0) (map unscored rows) ≡ rows
 unscored_keys [] = refl
 unscored_keys (r ∷ rows) = ap (λ l. r ∷ l) (unscored_keys rows)
-
-pub unscored_rise : (t : Table) (x : IndexOf CatalogueBody) (meaning : Meaning) → keys_rise_by int_cmp (map (λ h. h.0) (map unscored (rows_meant t x meaning))) ≡ true
-unscored_rise t x meaning = ap (keys_rise_by int_cmp) (unscored_keys (rows_meant t x meaning)) ∙ meant_rise t x meaning

@@ -1,9 +1,11 @@
+pub mod Bounds
 pub mod CatalogueSteps
 pub mod Enough
-pub mod FewRows
+pub mod Narrowing
 pub mod PlainQueries
 pub mod Refusals
 pub mod Scores
 pub mod Searchable
 pub mod SeekLaws
 pub mod ThesaurusSteps
+pub mod WordRows

@@ -17,7 +17,7 @@ use Rattle.q_reduce.specs.Faults.{Fault, faults}
 use Rattle.q_reduce.specs.Reducing.{Context, both_query, leaf_phrases, reduced, term}
 use Rattle.cat_query.specs.PlainTrees.{is_plain_tree}
 use Rattle.cat_query.specs.Verdicts.{Verdict, Found as FoundTree}
-use Rattle.cat_search.specs.Queries.{is_plain}
+use Rattle.cat_search.specs.Queries.{is_boolean}
 use Rattle.db_cond.specs.Faults.{Refusal}
 use Rattle.db_find.specs.declared.querying.Meaning.{Meaning as Held}
 use Rattle.db_find.specs.declared.querying.Meaning.TheVariants.{Refused, Finds as Found}
@@ -51,7 +51,7 @@ no_faults x inside t plain = absurd (cc)
 -- ---- what it is reduced to
 
 abbrev pub IsPlainOrNone : Option Reduced → Type 0
-IsPlainOrNone o = IfSome o (λ q. is_plain q ≡ true)
+IsPlainOrNone o = IfSome o (λ q. is_boolean q ≡ true)
 
 plain_term : (phrases : List (List Slot)) → IsPlainOrNone (term phrases)
 plain_term [] = tt
@@ -64,9 +64,9 @@ plain_both Or None (Some b) of first second = second
 plain_both Not None (Some b) of first second = tt
 plain_both Minus None (Some b) of first second = tt
 plain_both op (Some a) None of first second = first
-plain_both And (Some a) (Some b) of first second = and_from (is_plain a) (is_plain b) first second
-plain_both Or (Some a) (Some b) of first second = and_from (is_plain a) (is_plain b) first second
-plain_both Not (Some a) (Some b) of first second = and_from (is_plain a) (is_plain b) first second
+plain_both And (Some a) (Some b) of first second = and_from (is_boolean a) (is_boolean b) first second
+plain_both Or (Some a) (Some b) of first second = and_from (is_boolean a) (is_boolean b) first second
+plain_both Not (Some a) (Some b) of first second = and_from (is_boolean a) (is_boolean b) first second
 plain_both Minus (Some a) (Some b) of first second = absurd (cc)
 
 pub plain_reduced : (x : Context) (t : Tree) → is_plain_tree t ≡ true → IsPlainOrNone (reduced x t)

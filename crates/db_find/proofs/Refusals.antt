@@ -16,13 +16,13 @@ use Rattle.db_cond.specs.Faults.{Refusal, QueryNumber}
 use Rattle.db_cond.specs.Refused.{refusal_of}
 use Rattle.db_find.specs.declared.structured.Structured.{Structured}
 use Rattle.db_find.specs.declared.structured.Structured.TheVariants.{Refused, Asks}
-use Rattle.db_find.specs.Structured.{IsRefused, MeansStructured, columns_refusal, cond_refusal, first_of, item_refusal, structured_refusal, where_found}
+use Rattle.db_find.specs.Structured.{IsRefused, MeansStructured, columns_refusal, cond_refusal, first_refusal, item_refusal, structured_refusal, where_found}
 
 -- the first of two lists is that of the first one, or else that of the second
-first_of_both : (xs ys : List (Option Refusal)) → first_of (xs ++ ys) ≡ option_or (first_of xs) (first_of ys)
-first_of_both [] ys = refl
-first_of_both (None ∷ xs) ys = first_of_both xs ys
-first_of_both (Some r ∷ xs) ys = refl
+first_refusal_of_both : (xs ys : List (Option Refusal)) → first_refusal (xs ++ ys) ≡ option_or (first_refusal xs) (first_refusal ys)
+first_refusal_of_both [] ys = refl
+first_refusal_of_both (None ∷ xs) ys = first_refusal_of_both xs ys
+first_refusal_of_both (Some r ∷ xs) ys = refl
 
 -- it is held so
 means : (refusal : Option Refusal) (w : Where) (r : Refusal) (asked : Structured) → refusal ≡ Some r → IsRefused asked r → MeansStructured asked refusal w
@@ -33,37 +33,37 @@ means refusal w r (Asks asked) is told = absurd told
 
 module _ {X : Type 0} (f : X → Option Refusal) (xs : List X) (i : ℕ) (x : X) (less : i < length xs) (is : x ≡ get_or xs i x) where
   abbrev later : Option Refusal
-  later = first_of (map f (drop (i + 1) xs))
+  later = first_refusal (map f (drop (i + 1) xs))
 
-  next : first_of (map f (drop i xs)) ≡ option_or (f x) later
-  next = at_drop_more (λ (l : List X). first_of (map f l)) xs i x less ∙ ap (λ (y : X). option_or (f y) later) (sym is)
+  next : first_refusal (map f (drop i xs)) ≡ option_or (f x) later
+  next = at_drop_more (λ (l : List X). first_refusal (map f l)) xs i x less ∙ ap (λ (y : X). option_or (f y) later) (sym is)
 
-  pub refused_next : (found : Option Fault) (fault : Fault) → found ≡ Some fault → option_map refusal_of found ≡ f x → first_of (map f (drop i xs)) ≡ first_of (map f xs) → Some (refusal_of fault) ≡ first_of (map f xs)
+  pub refused_next : (found : Option Fault) (fault : Fault) → found ≡ Some fault → option_map refusal_of found ≡ f x → first_refusal (map f (drop i xs)) ≡ first_refusal (map f xs) → Some (refusal_of fault) ≡ first_refusal (map f xs)
   refused_next found fault some its so_far = ap (λ (o : Option Refusal). option_or o later) (sym (ap (option_map refusal_of) some) ∙ its) ∙ sym next ∙ so_far
 
-  pub passed_next : (found : Option Fault) → found ≡ None → option_map refusal_of found ≡ f x → first_of (map f (drop i xs)) ≡ first_of (map f xs) → later ≡ first_of (map f xs)
+  pub passed_next : (found : Option Fault) → found ≡ None → option_map refusal_of found ≡ f x → first_refusal (map f (drop i xs)) ≡ first_refusal (map f xs) → later ≡ first_refusal (map f xs)
   passed_next found none its so_far = ap (λ (o : Option Refusal). option_or o later) (sym (ap (option_map refusal_of) none) ∙ its) ∙ sym next ∙ so_far
 
 module _ (columns : List Column) (subs : List (List (List ℕ))) where
   -- ---- by its columns: the order stands behind the conditions
 
   abbrev refused_in : List Cond → Option Refusal
-  refused_in conds = first_of (map (cond_refusal columns subs) conds)
+  refused_in conds = first_refusal (map (cond_refusal columns subs) conds)
 
   pub refused_by_conds : (w : Where) (conds : List Cond) (found : Option Fault) (fault : Fault) → conds ≡ w.conds → found ≡ Some fault → option_map refusal_of found ≡ refused_in conds
       → Some (refusal_of fault) ≡ columns_refusal columns subs w
   refused_by_conds w conds found fault same some is =
       let orders = map (λ (o : OrderItem). item_refusal subs o.item) w.orders in
       let first = sym (ap (option_map refusal_of) some) ∙ is ∙ ap refused_in same in
-      ap (λ (o : Option Refusal). option_or o (first_of orders)) first ∙ sym (first_of_both (map (cond_refusal columns subs) w.conds) orders)
+      ap (λ (o : Option Refusal). option_or o (first_refusal orders)) first ∙ sym (first_refusal_of_both (map (cond_refusal columns subs) w.conds) orders)
 
   pub refused_by_orders : (w : Where) (conds : List Cond) (orders : List OrderItem) (found behind : Option Fault) → conds ≡ w.conds → orders ≡ w.orders → found ≡ None → option_map refusal_of found ≡ refused_in conds
-      → option_map refusal_of behind ≡ first_of (map (λ o. item_refusal subs o.item) orders) → option_map refusal_of behind ≡ columns_refusal columns subs w
+      → option_map refusal_of behind ≡ first_refusal (map (λ o. item_refusal subs o.item) orders) → option_map refusal_of behind ≡ columns_refusal columns subs w
   refused_by_orders w conds orders found behind same same_orders none is last =
       let items = map (λ (o : OrderItem). item_refusal subs o.item) w.orders in
       let first = sym (ap (option_map refusal_of) none) ∙ is ∙ ap refused_in same in
-      last ∙ ap (λ (os : List OrderItem). first_of (map (λ o. item_refusal subs o.item) os)) same_orders
-      ∙ ap (λ (o : Option Refusal). option_or o (first_of items)) first ∙ sym (first_of_both (map (cond_refusal columns subs) w.conds) items)
+      last ∙ ap (λ (os : List OrderItem). first_refusal (map (λ o. item_refusal subs o.item) os)) same_orders
+      ∙ ap (λ (o : Option Refusal). option_or o (first_refusal items)) first ∙ sym (first_refusal_of_both (map (cond_refusal columns subs) w.conds) items)
 
   -- ---- by a number of its text
 

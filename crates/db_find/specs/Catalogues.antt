@@ -15,7 +15,7 @@ use Rattle.ix_kinds.specs.Indextypes.{IndexOf}
 use Rattle.cat_query.specs.Verdicts.{Verdict, TooLarge, Found, Fault, verdict}
 use Rattle.cat_where.specs.Verdicts.{verdict as where_verdict}
 use Rattle.cat_index.specs.Catalogues.{CatalogueBody}
-use Rattle.cat_search.specs.Queries.{is_plain, key_term, red_hat}
+use Rattle.cat_search.specs.Queries.{is_boolean, key_term, red_hat}
 use Rattle.cat_search.specs.Meeting.{met_rows}
 use Rattle.cat_search.specs.Looking.{slot_rows}
 use Rattle.db_cond.specs.Faults.{Refusal, QuerySyntax, QueryTooLarge}
@@ -35,15 +35,15 @@ verdict_meaning p (Fault place) = Refuses (QuerySyntax place)
 verdict_meaning p (Found t) = Finds (reduced (reduction_context p []) t)
 
 -- WHAT A QUERY TEXT OF CATSEARCH MEANS to an index with these preferences
-abbrev pub words_meaning : Prefs → List ℕ → Meaning
-words_meaning p text = verdict_meaning p (verdict (chars text))
+abbrev pub catsearch_meaning : Prefs → List ℕ → Meaning
+catsearch_meaning p text = verdict_meaning p (verdict (chars text))
 
 -- ---- refusals
 
 -- WHY A CATALOGUE REFUSES A SEARCH by a query text and a structured query, if it does: the query text comes first
 abbrev pub catalogue_refusal : Tables → IndexOf CatalogueBody → List ℕ → List ℕ → Option Refusal
 catalogue_refusal ts x query structured =
-    option_or (refusal_in (words_meaning x.prefs query)) (structured_refusal (table_at ts x.table).columns x.body.names (where_verdict (chars structured)))
+    option_or (refusal_in (catsearch_meaning x.prefs query)) (structured_refusal (table_at ts x.table).columns x.body.names (where_verdict (chars structured)))
 
 -- ---- rows
 
@@ -59,7 +59,7 @@ rows_meant t x (Refuses refusal) = []
 
 -- WHAT A CATALOGUE FINDS by a query text
 abbrev pub catalogue_rows : Tables → IndexOf CatalogueBody → List ℕ → List (ℤ × ℕ)
-catalogue_rows ts x query = map unscored (rows_meant (table_at ts x.table) x (words_meaning x.prefs query))
+catalogue_rows ts x query = map unscored (rows_meant (table_at ts x.table) x (catsearch_meaning x.prefs query))
 
 -- ---- texts
 
@@ -74,12 +74,12 @@ unless_refused (Some refusal) n = 0
 
 -- HOW MANY TEXTS A CATALOGUE READS at most to find them; none where it refuses the search
 abbrev pub catalogue_texts : Tables → IndexOf CatalogueBody → List ℕ → List ℕ → ℕ
-catalogue_texts ts x query structured = unless_refused (catalogue_refusal ts x query structured) (texts_meant (table_at ts x.table) x (words_meaning x.prefs query))
+catalogue_texts ts x query structured = unless_refused (catalogue_refusal ts x query structured) (texts_meant (table_at ts x.table) x (catsearch_meaning x.prefs query))
 
 -- ---- as code holds a query
 
 abbrev pub IsPlainQuery : Option Flat → Type 0
-IsPlainQuery flat = IfSome flat (λ q. is_plain (reduced_of q) ≡ true)
+IsPlainQuery flat = IfSome flat (λ q. is_boolean (reduced_of q) ≡ true)
 
 abbrev pub IsPlainMeaning : Held → Type 0
 IsPlainMeaning (Refused line) = Unit {0}
@@ -87,11 +87,11 @@ IsPlainMeaning (FindsQuery flat) = IsPlainQuery flat
 
 -- ---- computed examples, by the default preferences
 
-the_phrase : words_meaning default_prefs (codes "\"Red hat\"") ≡ Finds (Some red_hat)
+the_phrase : catsearch_meaning default_prefs (codes "\"Red hat\"") ≡ Finds (Some red_hat)
 unfolding encode chars caseless ucd_category key_text
 the_phrase = refl
 
-no_text : words_meaning default_prefs [] ≡ Refuses (QuerySyntax 1)
+no_text : catsearch_meaning default_prefs [] ≡ Refuses (QuerySyntax 1)
 unfolding encode chars caseless ucd_category key_text
 no_text = refl
 

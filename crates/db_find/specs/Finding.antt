@@ -79,8 +79,8 @@ pub record Answers (ts : Tables) (x : Index) (columns : List Column) (s : Search
   pub kind : kinds.kind x.body ≡ search_kind s
   pub table : (table_at ts x.table).columns ≡ columns
 
--- Of the rows that a search finds in a table, these are all that meet the conditions that it asks for. Others of them may be left out: so an index that knows the
--- values of rows needn't hand out those that fail. They are in the order of their keys, each once.
+-- These are enough of the rows that a search finds in a table, for a caller that asks of each whether it meets the conditions: those that do are the same of both,
+-- and these are no more. So an index that knows the values of rows needn't hand out those that fail. They are in the order of their keys, each once.
 pub record AreEnough (t : Table) (conds : List Cond) (rows enough : List (ℤ × ℕ)) : Type 0 where
   pub met : filter (λ h. key_meets t conds h.0) enough ≡ filter (λ h. key_meets t conds h.0) rows
   pub few : length enough ≤ length rows
@@ -99,18 +99,23 @@ FindsAbove ts x flat above result = IfOk result (λ hits. hit_rows hits.items �
 abbrev pub FindsByMeaning : Tables → IndexOf ContextIndex → Meaning → Option ℕ → Result Found KeepFault → Type 0
 FindsByMeaning ts x meaning above result = IfOk result (GivesFound (refusal_in meaning) (table_at ts x.table) (found_by ts x meaning above) nothing_asked)
 
--- a call that didn't fail gave the rows that a catalogue finds by a query as code holds it
-abbrev pub FindsMeant : Tables → IndexOf CatalogueBody → Option Flat → Result (Vec RowKey Global) KeepFault → Type 0
-FindsMeant ts x flat result = IfOk result (λ rows. map (λ r. r.0) rows.items ≡ rows_meant (table_at ts x.table) x (Finds (option_map reduced_of flat)))
+-- the rows that a catalogue finds by a query as code holds it, none with a score
+abbrev pub meant_unscored : Tables → IndexOf CatalogueBody → Option Flat → List (ℤ × ℕ)
+meant_unscored ts x flat = map unscored (rows_meant (table_at ts x.table) x (Finds (option_map reduced_of flat)))
 
--- these are those rows, none with a score, and this is asked of them beside
+-- a call that didn't fail gave as many of the rows that a catalogue finds by a query, as code holds it, as conditions need
+abbrev pub FindsMeant : Tables → IndexOf CatalogueBody → Option Flat → List Cond → Result (Vec RowKey Global) KeepFault → Type 0
+FindsMeant ts x flat conds result =
+    IfOk result (λ rows. AreEnough (table_at ts x.table) conds (meant_unscored ts x flat) (map (λ r. unscored r.0) rows.items))
+
+-- these are as many of them as what is asked of them beside needs, none with a score, and this is that
 abbrev pub GivesMeant : Tables → IndexOf CatalogueBody → Option Flat → Where → Found → Type 0
 GivesMeant ts x flat w (Refused line) = ⊥
-GivesMeant ts x flat w (Rows hits asked) = (asked ≡ w) × (hit_rows hits.items ≡ map unscored (rows_meant (table_at ts x.table) x (Finds (option_map reduced_of flat))))
+GivesMeant ts x flat w (Rows hits asked) = (asked ≡ w) × AreEnough (table_at ts x.table) w.conds (meant_unscored ts x flat) (hit_rows hits.items)
 
 -- a call that didn't fail gave what a catalogue finds by a query text and a structured query
-abbrev pub FindsByWords : Tables → IndexOf CatalogueBody → List ℕ → List ℕ → Result Found KeepFault → Type 0
-FindsByWords ts x query structured result =
+abbrev pub FindsByTexts : Tables → IndexOf CatalogueBody → List ℕ → List ℕ → Result Found KeepFault → Type 0
+FindsByTexts ts x query structured result =
     IfOk result (GivesFound (catalogue_refusal ts x query structured) (table_at ts x.table) (catalogue_rows ts x query) (where_found (where_verdict (chars structured))))
 
 -- a call that didn't fail gave what a search finds in its index

@@ -7,5 +7,5 @@ pub mod Structured
 pub mod Catalogues
 pub mod Finding
 pub mod Looking
-pub mod Few
+pub mod WordRows
 pub mod laws

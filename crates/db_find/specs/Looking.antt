@@ -23,6 +23,7 @@ use Rattle.cat_index.specs.Catalogues.{CatalogueBody, docs_catalogue}
 use Rattle.cat_search.specs.Contents.{IsIndexOf}
 use Rattle.cat_search.specs.Looking.{ReadsTexts}
 use Rattle.ix_indexes.specs.Indexes.{Body, Index, as_catalogue, as_index}
+use Rattle.ix_context.specs.Indexes.{ContextIndex}
 use Rattle.ix_search.specs.Finding.{key_query, three_rows}
 use Rattle.ix_search.specs.Looking.{foxes, query_allowance, query_looks, query_of_fox}
 use Rattle.st_parse.specs.declared.statements.Whole.{Whole}
@@ -45,30 +46,32 @@ flat_looks c i flat threshold = meaning_looks c i (Finds (option_map reduced_of 
 abbrev pub text_looks : Content → Thesauri → List ℕ → Index → List ℕ → Whole → Counts
 text_looks c thesauri i x query above = meaning_looks c i (meaning_of x.prefs thesauri query) (threshold_of above)
 
--- HOW MANY TEXTS A SEARCH READS at most to find its rows, by what its index is: CONTAINS none
-abbrev pub texts_of_kind : Tables → Index → Body → Search → ℕ
-texts_of_kind ts x body (Contains column query label above) = 0
-texts_of_kind ts x (inl c) (Catsearch column query structured) = 0
-texts_of_kind ts x (inr b) (Catsearch column query structured) = catalogue_texts ts (with_body x b) query structured
+-- how many texts a CATSEARCH reads at most to find its rows, by what its index is
+abbrev pub texts_of_kind : Tables → Index → Body → List ℕ → List ℕ → ℕ
+texts_of_kind ts x (inl c) query structured = 0
+texts_of_kind ts x (inr b) query structured = catalogue_texts ts (with_body x b) query structured
 
-abbrev pub search_texts : Tables → Index → Search → ℕ
-search_texts ts x s = texts_of_kind ts x x.body s
-
--- in the index that it needs, with its name; none where there is none
+-- HOW MANY TEXTS A SEARCH READS at most to find its rows, in the index that it needs, with its name: none where there is none, and CONTAINS none
 abbrev pub texts_in_index : Tables → Option (List ℕ × Index) → Search → ℕ
 texts_in_index ts named (Contains column query label above) = 0
 texts_in_index ts None (Catsearch column query structured) = 0
-texts_in_index ts (Some named) (Catsearch column query structured) = search_texts ts named.1 (Catsearch column query structured)
+texts_in_index ts (Some named) (Catsearch column query structured) = texts_of_kind ts named.1 named.1.body query structured
 
 -- WHAT A SEARCH LOOKS AT in the index of this name, where these tables and thesauri are there
 abbrev pub search_looks : Content → Tables → Thesauri → List ℕ → Index → Search → Counts
 search_looks c ts thesauri i x (Contains column query label above) = text_looks c thesauri i x query above
-search_looks c ts thesauri i x (Catsearch column query structured) = record no_looks { texts = search_texts ts x (Catsearch column query structured) }
+search_looks c ts thesauri i x (Catsearch column query structured) = record no_looks { texts = texts_of_kind ts x x.body query structured }
 
 -- in the index that it needs, with its name; nothing where there is none
 abbrev pub looks_in : Content → Tables → Thesauri → Option (List ℕ × Index) → Search → Counts
 looks_in c ts thesauri None s = no_looks
 looks_in c ts thesauri (Some named) s = search_looks c ts thesauri named.0 named.1 s
+
+-- A CALL LOOKED AT NO MORE THAN A QUERY TEXT DOES in the CONTEXT index of this name, with a score above a number.
+abbrev pub LooksInContext : {K : Type 0} → (K → KeeperView) → K → K → List ℕ → List ℕ → Whole → Type 0
+LooksInContext view old new i query above =
+    (m : StoreState) (c : Content) (x : IndexOf ContextIndex) → (view old).content ≡ Some c → StandsForState c m → get m.indexes i ≡ Some (as_index x)
+    → LooksAtMost view old new (text_looks c m.thesauri i (as_index x) query above)
 
 -- Of CATSEARCH nothing is said of the rules that were handed out: rules stand behind the entries of catalogues, so that a look-up behind the last one of all
 -- hands out the first rule. `new` is what had been looked up when the search was done.
@@ -92,12 +95,19 @@ OverCatalogue view old i holds = (m : StoreState) (c : Content) (x : IndexOf Cat
 abbrev pub OverCatalogueOf : {K : Type 0} → (K → KeeperView) → K → List ℕ → Catalogue → (StoreState → IndexOf CatalogueBody → Type 0) → Type 0
 OverCatalogueOf view old i catalogue holds = OverCatalogue view old i (λ m x. IsIndexOf catalogue x → x.body.names ≡ catalogue.subs → holds m x)
 
--- no more texts were read than a query needs, and than a query text and a structured query do
-abbrev pub ReadsMeant : Tables → IndexOf CatalogueBody → Option Flat → Counts → Counts → Type 0
-ReadsMeant ts x flat old new = ReadsTexts (texts_meant (table_at ts x.table) x (Finds (option_map reduced_of flat))) old new
+-- each of them where the table of the catalogue has these columns
+abbrev pub OverColumns : {K : Type 0} → (K → KeeperView) → K → List ℕ → List Column → (Tables → IndexOf CatalogueBody → Type 0) → Type 0
+OverColumns view old i columns holds = OverCatalogue view old i (λ m x. (table_at m.tables x.table).columns ≡ columns → holds m.tables x)
 
-abbrev pub ReadsWords : Tables → IndexOf CatalogueBody → List ℕ → List ℕ → Counts → Counts → Type 0
-ReadsWords ts x query structured old new = ReadsTexts (catalogue_texts ts x query structured) old new
+abbrev pub OverColumnsOf : {K : Type 0} → (K → KeeperView) → K → List ℕ → Catalogue → List Column → (Tables → IndexOf CatalogueBody → Type 0) → Type 0
+OverColumnsOf view old i catalogue columns holds = OverCatalogueOf view old i catalogue (λ m x. (table_at m.tables x.table).columns ≡ columns → holds m.tables x)
+
+-- no more texts were read than a query needs, and than a query text and a structured query do
+abbrev pub ReadsMeant : {K : Type 0} → (K → KeeperView) → K → K → Option Flat → Tables → IndexOf CatalogueBody → Type 0
+ReadsMeant view old new flat ts x = ReadsTexts (texts_meant (table_at ts x.table) x (Finds (option_map reduced_of flat))) (view old).counts (view new).counts
+
+abbrev pub ReadsByTexts : {K : Type 0} → (K → KeeperView) → K → K → List ℕ → List ℕ → Tables → IndexOf CatalogueBody → Type 0
+ReadsByTexts view old new query structured ts x = ReadsTexts (catalogue_texts ts x query structured) (view old).counts (view new).counts
 
 -- ---- by rows
 
@@ -121,7 +131,7 @@ allowance_in c thesauri (Some named) s = search_allowance c thesauri named.0 nam
 of_no_query : (c : Content) → meaning_looks c (codes "di") (Finds None) (Some 0) ≡ no_looks
 of_no_query c = refl
 
-no_text_where_it_is_refused : (ts : Tables) → search_texts ts (as_catalogue docs_catalogue) (Catsearch (codes "body") [] []) ≡ 0
+no_text_where_it_is_refused : (ts : Tables) → texts_in_index ts (Some (codes "ci", as_catalogue docs_catalogue)) (Catsearch (codes "body") [] []) ≡ 0
 unfolding encode chars caseless ucd_category key_text
 no_text_where_it_is_refused ts = refl
 

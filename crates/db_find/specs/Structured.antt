@@ -61,13 +61,13 @@ item_refusal subs (ColumnItem name) = if is_in_sub_index subs name then None els
 -- the grammar of structured queries has no SCORE
 item_refusal subs (Score label) = None
 
-abbrev pub first_of : List (Option Refusal) → Option Refusal
-first_of [] = None
-first_of (o ∷ os) = option_or o (first_of os)
+abbrev pub first_refusal : List (Option Refusal) → Option Refusal
+first_refusal [] = None
+first_refusal (o ∷ os) = option_or o (first_refusal os)
 
 -- the first in the text: the order stands behind the conditions
 abbrev pub columns_refusal : List Column → List (List (List ℕ)) → Where → Option Refusal
-columns_refusal columns subs w = first_of (map (cond_refusal columns subs) w.conds ++ map (λ o. item_refusal subs o.item) w.orders)
+columns_refusal columns subs w = first_refusal (map (cond_refusal columns subs) w.conds ++ map (λ o. item_refusal subs o.item) w.orders)
 
 -- WHY A STRUCTURED QUERY IS REFUSED, if it is, by a catalogue with these sub-indexes on a table with these columns
 abbrev pub structured_refusal : List Column → List (List (List ℕ)) → Verdict → Option Refusal

@@ -1,24 +1,19 @@
 //! What a search finds in its index.
 #![tactic(auto, using(ct_keep::specs::laws::Composing::reads_on, ct_keep::specs::laws::Composing::reads_short))]
 
-ghost use Rattle.std.specs.Prelude.{◌≡◌, Some, nat_lt, filter};
+ghost use Rattle.std.specs.Prelude.{◌≡◌, nat_lt, filter};
 ghost use Rattle.ct_keep.specs.KeeperViews.{OnlyReads, Told};
 ghost use Rattle.ct_keep.specs.Looks.{LooksAtMost};
 ghost use Rattle.q_tree.specs.ReducedQueries.{reduced_of};
 ghost use Rattle.ix_search.specs.Looking.{query_looks};
-ghost use Rattle.std.specs.FinMap.{get};
-ghost use Rattle.ct_keep.specs.Content.{Content};
-ghost use Rattle.ix_kinds.specs.Indextypes.{IndexOf};
-ghost use Rattle.ix_context.specs.Indexes.{ContextIndex};
-ghost use Rattle.ix_indexes.specs.Indexes.{as_index};
-ghost use Rattle.db_state.specs.States.{OverContext, OverIndex, StandsForState, StoreState};
+ghost use Rattle.db_state.specs.States.{OverContext, OverIndex};
 ghost use Rattle.db_find.specs.Finding.{Answers, FindsAbove, FindsBy, FindsByMeaning, FindsBySearch};
-ghost use Rattle.db_find.specs.Looking.{LooksInIndex, flat_looks, text_looks};
+ghost use Rattle.db_find.specs.Looking.{LooksInContext, LooksInIndex, flat_looks};
 ghost use Rattle.db_find.specs.Meanings.{CanSearch, CanSearchIt};
 ghost use Rattle.db_find.specs.Querying.{meaning_of};
 ghost use Rattle.db_find.specs.Searches.{held_search, threshold_of as threshold_in};
 
-use crate::catalogues::{ask_nothing, find_in_catalogue};
+use crate::catalogues::{find_in_catalogue, nothing_asked};
 use crate::querying::{Meaning, meaning_in};
 use crate::searches::{Search, threshold_of};
 use cat_where::Where;
@@ -99,7 +94,7 @@ fn find_in_context<K: Keeper>(
     requires { (K.view keeper.old).ready }
     ensures found { OverContext K.view keeper.old index.now (λ m x. FindsByMeaning m.tables x (meaning_of x.prefs m.thesauri query.now) (threshold_in above) result) }
     ensures reads { OnlyReads K.view keeper.old keeper.new result }
-    ensures at_most { (m : StoreState) (c : Content) (x : IndexOf ContextIndex) → (K.view keeper.old).content ≡ Some c → StandsForState c m → get m.indexes index.now ≡ Some (as_index x) → LooksAtMost K.view keeper.old keeper.new (text_looks c m.thesauri index.now (as_index x) query.now above) }
+    ensures at_most { LooksInContext K.view keeper.old keeper.new index.now query.now above }
 {
     let meaning = meaning_in(alloc, keeper, index, query)?;
     match meaning {
@@ -107,7 +102,7 @@ fn find_in_context<K: Keeper>(
         Meaning::Finds(flat) => {
             let above = threshold_of(above);
             let hits = found_hits(alloc, keeper, index, &flat, above)?;
-            Ok(Found::Rows(hits, ask_nothing(alloc)))
+            Ok(Found::Rows(hits, nothing_asked(alloc)))
         }
     }
 }
@@ -117,7 +112,8 @@ fn find_in_context<K: Keeper>(
 ///
 /// Of a CONTAINS it costs the reading of the query text, of the index's preferences and of the thesauri that the text names, and then the
 /// search of the postings. It reads no text of a row. Of a CATSEARCH it costs the reading of both texts and of the catalogue's entry, and the walk through the
-/// catalogue's entries; it reads texts only for phrases of several words.
+/// entries of the sub-index that the conditions bound most, between these bounds; where the query has a phrase of several words, it reads the text of each row at
+/// which the walk stops, and else none.
 pub fn find<K: Keeper>(
     alloc: Global,
     keeper: &mut K,

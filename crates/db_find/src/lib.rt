@@ -1,6 +1,8 @@
 //! What a text predicate finds: rows by their keys, each with its score.
 #![tactic(auto)]
 
+mod between;
+mod cat_queries;
 mod catalogues;
 mod finding;
 mod laws;
@@ -9,9 +11,8 @@ mod searches;
 mod seeking;
 mod structured;
 mod thesauri;
-mod words;
 
 pub use finding::{Found, find};
-pub use laws::catalogues_find_few;
+pub use laws::catalogues_find_word_rows;
 pub use searches::{Search, search_in};
 pub use seeking::needed_index;

@@ -8,7 +8,7 @@ ghost use Rattle.std.specs.Str.{chars};
 ghost use Rattle.ct_entry.specs.Keys.{same_list};
 ghost use Rattle.cat_where.specs.Verdicts.{verdict};
 ghost use Rattle.db_cond.specs.Refused.{refusal_of};
-ghost use Rattle.db_find.specs.Structured.{IsRefused, MeansStructured, columns_refusal, cond_refusal, first_of, is_in_sub_index as is_in_one, item_refusal, structured_refusal, where_found};
+ghost use Rattle.db_find.specs.Structured.{IsRefused, MeansStructured, columns_refusal, cond_refusal, first_refusal, is_in_sub_index as is_in_one, item_refusal, structured_refusal, where_found};
 
 use cat_where::{Where, WhereFault, read_where};
 use ct_base::{Listed, Memory, Name};
@@ -84,7 +84,7 @@ fn conds_fault<'a>(
     columns: &[Column],
     subs: &[Listed<Name>],
 ) -> Option<Fault<'a>>
-    ensures { option_map refusal_of result ≡ first_of (map (cond_refusal columns.now subs.now) conds.now) }
+    ensures { option_map refusal_of result ≡ first_refusal (map (cond_refusal columns.now subs.now) conds.now) }
 {
     for cond in conds {
         if let Some(fault) = cond_fault(cond, columns, subs) {
@@ -96,7 +96,7 @@ fn conds_fault<'a>(
 
 /// Why an order is refused, if it is: the first of its items that is.
 fn orders_fault<'a>(orders: &'a [OrderItem], subs: &[Listed<Name>]) -> Option<Fault<'a>>
-    ensures { option_map refusal_of result ≡ first_of (map (λ o. item_refusal subs.now o.item) orders.now) }
+    ensures { option_map refusal_of result ≡ first_refusal (map (λ o. item_refusal subs.now o.item) orders.now) }
 {
     for order in orders {
         if let Some(fault) = item_fault(&order.item, subs) {

@@ -12,7 +12,7 @@ use Rattle.ix_kinds.specs.Indextypes.{with_body}
 use Rattle.ix_search.specs.Looking.{QueriesLookFew}
 use Rattle.ix_indexes.specs.Indexes.{Body, Index}
 use Rattle.db_cond.specs.Faults.{Refusal}
-use Rattle.db_find.specs.Catalogues.{texts_meant, unless_refused, words_meaning}
+use Rattle.db_find.specs.Catalogues.{texts_meant, unless_refused, catsearch_meaning}
 use Rattle.db_find.specs.Finding.{refusal_of_kind, search_refusal}
 use Rattle.db_find.specs.Looking.{allowance_in, looks_in, meaning_allowance, meaning_looks, search_allowance, search_looks, texts_in_index, texts_of_kind}
 use Rattle.db_find.specs.Querying.{Finds, Meaning, Refuses, meaning_of, refusal_in}
@@ -86,9 +86,9 @@ refused_meaning m i (Finds q) threshold refusal is = absurd (cc)
 
 -- by what the index of a CATSEARCH is
 refused_texts : (ts : Tables) (thesauri : Thesauri) (x : Index) (body : Body) (column query structured : List ℕ) (refusal : Refusal)
-    → refusal_of_kind ts thesauri x body (Catsearch column query structured) ≡ Some refusal → texts_of_kind ts x body (Catsearch column query structured) ≡ 0
+    → refusal_of_kind ts thesauri x body (Catsearch column query structured) ≡ Some refusal → texts_of_kind ts x body query structured ≡ 0
 refused_texts ts thesauri x (inl c) column query structured refusal is = refl
-refused_texts ts thesauri x (inr b) column query structured refusal is = ap (λ (o : Option Refusal). unless_refused o (texts_meant (table_at ts x.table) (with_body x b) (words_meaning x.prefs query))) is
+refused_texts ts thesauri x (inr b) column query structured refusal is = ap (λ (o : Option Refusal). unless_refused o (texts_meant (table_at ts x.table) (with_body x b) (catsearch_meaning x.prefs query))) is
 
 pub refused_looks : (m : Content) (ts : Tables) (thesauri : Thesauri) (i : List ℕ) (x : Index) (s : Search) (refusal : Refusal) → search_refusal ts thesauri x s ≡ Some refusal → search_looks m ts thesauri i x s ≡ no_looks
 refused_looks m ts thesauri i x (Contains column query label above) refusal is = refused_meaning m i (meaning_of x.prefs thesauri query) (threshold_of above) refusal is

@@ -23,7 +23,7 @@ returns-clause-found g c = λ m k x holds stands there columns.
     let i = c.args.index.now in
     let y = c.in-Some.catalogue in
     let spells = subst (SpellsCatalogue (at k (key kind.Indexes i []))) c.in-Some.is (c.in_ok-catalogue.ensures.value k holds) in
-    c.find_by_words.ensures.found m k x (reads_hold _ _ k c.in_ok-catalogue.ensures.reads holds) stands there (is_index_of k m stands i x there y spells) (its_names k m stands i x there y spells) columns
+    c.find_by_texts.ensures.found m k x (reads_hold _ _ k c.in_ok-catalogue.ensures.reads holds) stands there (is_index_of k m stands i x there y spells) (its_names k m stands i x there y spells) columns
 
 pub returns-clause-texts : goal.returns-clause-texts
 returns-clause-texts g c = λ m k x holds stands there columns.
@@ -31,4 +31,4 @@ returns-clause-texts g c = λ m k x holds stands there columns.
     let y = c.in-Some.catalogue in
     let spells = subst (SpellsCatalogue (at k (key kind.Indexes i []))) c.in-Some.is (c.in_ok-catalogue.ensures.value k holds) in
     reads_behind _ _ _ _ c.in_ok-catalogue.ensures.at_most
-    (c.find_by_words.ensures.texts m k x (reads_hold _ _ k c.in_ok-catalogue.ensures.reads holds) stands there (is_index_of k m stands i x there y spells) (its_names k m stands i x there y spells) columns)
+    (c.find_by_texts.ensures.texts m k x (reads_hold _ _ k c.in_ok-catalogue.ensures.reads holds) stands there (is_index_of k m stands i x there y spells) (its_names k m stands i x there y spells) columns)

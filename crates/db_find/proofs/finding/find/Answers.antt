@@ -20,7 +20,7 @@ use Rattle.db_find.specs.Querying.{meaning_of, refusal_in}
 use Rattle.db_find.specs.Searches.{Search, Catsearch, Contains, held_search, search_above, search_kind, search_query, search_structured, threshold_of}
 use Rattle.db_find.specs.Structured.{contains_asks_nothing}
 use Rattle.db_find.specs.Catalogues.{catalogue_texts}
-use Rattle.db_find.specs.Finding.{FindsByMeaning, FindsBySearch, FindsByWords, GivesFound, found_by}
+use Rattle.db_find.specs.Finding.{FindsByMeaning, FindsBySearch, FindsByTexts, GivesFound, found_by}
 use Rattle.db_find.specs.Looking.{leaving_rules, meaning_looks, search_looks}
 use Rattle.ct_keep.specs.Content.{Content}
 use Rattle.ct_keep.specs.KeeperViews.{Counts}
@@ -63,37 +63,37 @@ returns-in-Contains-clause-at_most g c = λ m k x holds stands there answers.
 -- ---- CATSEARCH
 
 -- by its two texts it finds what it finds
-by_words : (ts : Tables) (thesauri : Thesauri) (x : Index) (s : Search) (query structured : List ℕ) (result : Result Found KeepFault) → query ≡ search_query s → structured ≡ search_structured s → search_kind s ≡ Catalogue → kinds.kind x.body ≡ search_kind s
-    → ((b : CatalogueBody) → x ≡ with_body x (inr b) → FindsByWords ts (with_body x b) query structured result) → FindsBySearch ts thesauri x s result
-by_words ts thesauri x (Catsearch column query structured) asked conditions result same_query same_structured catsearch of finds =
+by_texts : (ts : Tables) (thesauri : Thesauri) (x : Index) (s : Search) (query structured : List ℕ) (result : Result Found KeepFault) → query ≡ search_query s → structured ≡ search_structured s → search_kind s ≡ Catalogue → kinds.kind x.body ≡ search_kind s
+    → ((b : CatalogueBody) → x ≡ with_body x (inr b) → FindsByTexts ts (with_body x b) query structured result) → FindsBySearch ts thesauri x s result
+by_texts ts thesauri x (Catsearch column query structured) asked conditions result same_query same_structured catsearch of finds =
     let b = is_catalogue x of in
     let y = with_body x b.0 in
     subst (λ (z : Index). FindsBySearch ts thesauri z (Catsearch column query structured) result) (sym b.1)
-    (subst (λ (q : List ℕ). FindsByWords ts y q structured result) same_query
-    (subst (λ (w : List ℕ). FindsByWords ts y asked w result) same_structured (finds b.0 b.1)))
-by_words ts thesauri x (Contains column query label above) asked conditions result same_query same_structured catsearch of finds = let wrong : ◌≡◌ {A = IndexKind} Context Catalogue = catsearch in cc
+    (subst (λ (q : List ℕ). FindsByTexts ts y q structured result) same_query
+    (subst (λ (w : List ℕ). FindsByTexts ts y asked w result) same_structured (finds b.0 b.1)))
+by_texts ts thesauri x (Contains column query label above) asked conditions result same_query same_structured catsearch of finds = let wrong : ◌≡◌ {A = IndexKind} Context Catalogue = catsearch in cc
 
 -- and looks at the texts that it reads
 reads_alone : (m : Content) (ts : Tables) (thesauri : Thesauri) (i : List ℕ) (x : Index) (b : CatalogueBody) (column query structured : List ℕ) (old new : Counts) → ReadsTexts (catalogue_texts ts (with_body x b) query structured) old new
     → RisesBy (leaving_rules (Catsearch column query structured) new (search_looks m ts thesauri i (with_body x (inr b)) (Catsearch column query structured))) old new
 reads_alone m ts thesauri i x b column query structured old new reads = record { texts = reads.texts; rows = omega (arith, reads.rows); rules = omega arith }
 
-looks_by_words : (m : Content) (ts : Tables) (thesauri : Thesauri) (i : List ℕ) (x : Index) (s : Search) (query structured : List ℕ) (old new : Counts) → query ≡ search_query s → structured ≡ search_structured s → search_kind s ≡ Catalogue → kinds.kind x.body ≡ search_kind s
+looks_by_texts : (m : Content) (ts : Tables) (thesauri : Thesauri) (i : List ℕ) (x : Index) (s : Search) (query structured : List ℕ) (old new : Counts) → query ≡ search_query s → structured ≡ search_structured s → search_kind s ≡ Catalogue → kinds.kind x.body ≡ search_kind s
     → ((b : CatalogueBody) → x ≡ with_body x (inr b) → ReadsTexts (catalogue_texts ts (with_body x b) query structured) old new) → RisesBy (leaving_rules s new (search_looks m ts thesauri i x s)) old new
-looks_by_words m ts thesauri i x (Catsearch column query structured) asked conditions old new same_query same_structured catsearch of reads =
+looks_by_texts m ts thesauri i x (Catsearch column query structured) asked conditions old new same_query same_structured catsearch of reads =
     let b = is_catalogue x of in
     let y = with_body x b.0 in
     subst (λ (z : Index). RisesBy (leaving_rules (Catsearch column query structured) new (search_looks m ts thesauri i z (Catsearch column query structured))) old new) (sym b.1)
     (reads_alone m ts thesauri i x b.0 column query structured old new
     (subst (λ (q : List ℕ). ReadsTexts (catalogue_texts ts y q structured) old new) same_query (subst (λ (w : List ℕ). ReadsTexts (catalogue_texts ts y asked w) old new) same_structured (reads b.0 b.1))))
-looks_by_words m ts thesauri i x (Contains column query label above) asked conditions old new same_query same_structured catsearch of reads = let wrong : ◌≡◌ {A = IndexKind} Context Catalogue = catsearch in cc
+looks_by_texts m ts thesauri i x (Contains column query label above) asked conditions old new same_query same_structured catsearch of reads = let wrong : ◌≡◌ {A = IndexKind} Context Catalogue = catsearch in cc
 
 pub returns-in-Catsearch-clause-found : goal.returns-in-Catsearch-clause-found
 returns-in-Catsearch-clause-found g c = λ m k x holds stands there answers.
-    by_words m.tables m.thesauri x (held_search c.args.search) c.query-in-Catsearch.result.now c.structured.result.now c.find_in_catalogue.result c.query-in-Catsearch.ensures c.structured.ensures (ap (λ (h : Held). search_kind (held_search h)) c.in-Catsearch.is) answers.kind
+    by_texts m.tables m.thesauri x (held_search c.args.search) c.query-in-Catsearch.result.now c.structured.result.now c.find_in_catalogue.result c.query-in-Catsearch.ensures c.structured.ensures (ap (λ (h : Held). search_kind (held_search h)) c.in-Catsearch.is) answers.kind
     (λ b is. c.find_in_catalogue.ensures.found m k (with_body x b) holds stands (there ∙ ap Some is) answers.table)
 
 pub returns-in-Catsearch-clause-at_most : goal.returns-in-Catsearch-clause-at_most
 returns-in-Catsearch-clause-at_most g c = λ m k x holds stands there answers.
-    looks_by_words k m.tables m.thesauri c.args.index.now x (held_search c.args.search) c.query-in-Catsearch.result.now c.structured.result.now _ _ c.query-in-Catsearch.ensures c.structured.ensures (ap (λ (h : Held). search_kind (held_search h)) c.in-Catsearch.is) answers.kind
+    looks_by_texts k m.tables m.thesauri c.args.index.now x (held_search c.args.search) c.query-in-Catsearch.result.now c.structured.result.now _ _ c.query-in-Catsearch.ensures c.structured.ensures (ap (λ (h : Held). search_kind (held_search h)) c.in-Catsearch.is) answers.kind
     (λ b is. c.find_in_catalogue.ensures.texts m k (with_body x b) holds stands (there ∙ ap Some is) answers.table)

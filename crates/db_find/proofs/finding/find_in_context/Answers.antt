@@ -27,7 +27,7 @@ returns-in_ok-hits-in-Finds-clause-found g c = λ m k x holds stands there.
     c.in_ok-hits-in-Finds.ensures.found m k x behind stands there
     ∙ ap (λ (o : Option ℕ). found_by m.tables x (Finds (option_map reduced_of c.in-Finds.flat)) o) c.threshold_of-above.ensures
     ∙ sym (ap (λ (meaning : Meaning). found_by m.tables x meaning (threshold_of c.args.above)) means) in
-    (ap refusal_in means, (c.ask_nothing.ensures, all_are_enough _ _ _ _ rows (found_by_rise m.tables x meaning (threshold_of c.args.above))))
+    (ap refusal_in means, (c.nothing_asked.ensures, all_are_enough _ _ _ _ rows (found_by_rise m.tables x meaning (threshold_of c.args.above))))
 
 -- ---- the look-ups
 

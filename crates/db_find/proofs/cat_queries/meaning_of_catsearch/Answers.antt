@@ -1,5 +1,5 @@
 use Rattle.db_find.proofs.PlainQueries.{as_verdict, refused_plain}
-use Rattle.db_find.proofs.words.meaning_of_words.Goals as goal
+use Rattle.db_find.proofs.cat_queries.meaning_of_catsearch.Goals as goal
 
 pub returns-in-Ok-clause-meaning : goal.returns-in-Ok-clause-meaning
 returns-in-Ok-clause-meaning c = as_verdict c.args.prefs.now _ _ c.meaning_of_plain.result c.in-Ok.ensures.verdict c.meaning_of_plain.ensures.meaning

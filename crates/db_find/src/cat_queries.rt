@@ -6,7 +6,7 @@ ghost use Rattle.q_tree.specs.Limits.{keeps_limits};
 ghost use Rattle.q_tree.specs.Trees.{tree_of};
 ghost use Rattle.cat_query.specs.PlainTrees.{is_plain_tree};
 ghost use Rattle.cat_query.specs.Verdicts.{Found};
-ghost use Rattle.db_find.specs.Catalogues.{IsPlainMeaning, verdict_meaning, words_meaning};
+ghost use Rattle.db_find.specs.Catalogues.{IsPlainMeaning, verdict_meaning, catsearch_meaning};
 ghost use Rattle.db_find.specs.Meanings.{IsSearchable, Means};
 
 use crate::querying::{Meaning, meaning_by, refused};
@@ -29,8 +29,12 @@ fn meaning_of_plain(alloc: Global, prefs: &Prefs, query: &Query) -> Result<Meani
 }
 
 /// What a query text of CATSEARCH means to an index with these preferences: that it is refused, finds nothing, or finds what a reduced query does.
-pub(crate) fn meaning_of_words(alloc: Global, prefs: &Prefs, text: &str) -> Result<Meaning, Memory>
-    ensures meaning { IfOk result (λ meaning. Means meaning (words_meaning prefs.now text.now)) }
+pub(crate) fn meaning_of_catsearch(
+    alloc: Global,
+    prefs: &Prefs,
+    text: &str,
+) -> Result<Meaning, Memory>
+    ensures meaning { IfOk result (λ meaning. Means meaning (catsearch_meaning prefs.now text.now)) }
     ensures searchable { IfOk result (λ meaning. IsSearchable meaning) }
     ensures plain { IfOk result (λ meaning. IsPlainMeaning meaning) }
 {

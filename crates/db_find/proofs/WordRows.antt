@@ -1,9 +1,7 @@
 -- What a catalogue finds are no more rows than have a word that the query takes, by its verdict.
-use Rattle.std.proofs.Common.{ℕ, ℤ, ◌≡◌, ◌≤◌, ◌^◌, Bool, true, false, cond, List, [], length, Option, Some, None, IfSome, refl, ap, sym, subst, ◌∙◌, arith}
+use Rattle.std.proofs.Common.{ℕ, ℤ, ◌≡◌, ◌≤◌, ◌^◌, Bool, true, false, cond, List, [], length, Option, Some, None, IfSome, refl, ap, sym, subst, arith}
 use Rattle.std.specs.Str.{chars}
-use Rattle.std.specs.FinMap.{get}
 use Rattle.std.proofs.lemmas.List.{length-map}
-use Rattle.ct_keep.specs.Content.{Content}
 use Rattle.tx_settings.specs.PrefsBytes.{IsPrefs}
 use Rattle.tb_table.specs.Tables.{Table}
 use Rattle.tb_table.specs.Rules.{IsTable}
@@ -18,19 +16,16 @@ use Rattle.ix_kinds.specs.Indextypes.{IndexOf}
 use Rattle.ix_context.specs.Indexes.{texts_in}
 use Rattle.ix_context.specs.Postings.{IsShortOrNone}
 use Rattle.ix_context.specs.laws.Texts.{texts_short}
-use Rattle.ix_indexes.specs.Indexes.{as_catalogue}
 use Rattle.cat_index.specs.Catalogues.{CatalogueBody}
 use Rattle.cat_query.specs.PlainTrees.{is_plain_tree}
 use Rattle.cat_query.specs.Verdicts.{Verdict, TooLarge, Found, Fault, verdict}
-use Rattle.cat_search.specs.Meeting.{met_rows}
 use Rattle.cat_search.specs.Words.{is_exact}
 use Rattle.cat_search.specs.Looking.{slot_key_rows}
 use Rattle.cat_search.specs.Promises.{MetRowsHaveWords}
 use Rattle.db_cond.specs.Faults.{Refusal}
-use Rattle.db_state.specs.States.{StoreState, StandsForState}
 use Rattle.db_find.specs.Querying.{Finds, reduction_context}
-use Rattle.db_find.specs.Catalogues.{catalogue_refusal, catalogue_texts, verdict_meaning, rows_meant, texts_meant, unless_refused, unscored, words_meaning}
-use Rattle.db_find.specs.Few.{CataloguesFindFew, FindsFew, slot_rows_meant, slot_rows_of}
+use Rattle.db_find.specs.Catalogues.{catalogue_refusal, verdict_meaning, rows_meant, texts_meant, unless_refused, unscored, catsearch_meaning}
+use Rattle.db_find.specs.WordRows.{CataloguesFindWordRows, slot_rows_meant, slot_rows_of}
 use Rattle.db_find.specs.laws.Catalogues.{holds_catalogue}
 use Rattle.db_find.proofs.PlainQueries.{IsPlainOrNone, plain_reduced}
 
@@ -60,14 +55,14 @@ module _ (words : MetRowsHaveWords) (sound : ReducedIsSound) (t : Table) (x : In
       let context = reduction_context x.prefs [] in
       of_query (reduced context tree) (plain_reduced context tree is.1) (sound context tree is.0 prefs.group)
 
-pub catalogues_find_few : ((text : List ℕ) (t : Tree) → verdict text ≡ Found t → keeps_limits t ≡ true) → ((text : List ℕ) (t : Tree) → verdict text ≡ Found t → is_plain_tree t ≡ true)
-    → ReducedIsSound → MetRowsHaveWords → CataloguesFindFew
-catalogues_find_few limits plain sound words c m i x stands is query =
+pub catalogues_find_word_rows : ((text : List ℕ) (t : Tree) → verdict text ≡ Found t → keeps_limits t ≡ true) → ((text : List ℕ) (t : Tree) → verdict text ≡ Found t → is_plain_tree t ≡ true)
+    → ReducedIsSound → MetRowsHaveWords → CataloguesFindWordRows
+catalogues_find_word_rows limits plain sound words c m i x stands is query =
     let holds = holds_catalogue c m stands i x is in
     let t = table_at m.tables x.table in
     let rules : IsTable t = subst IsTable (sym (ap table_or_none holds.target.there)) (holds.tables.rules.each x.table holds.target.table holds.target.there) in
     let few = of_verdict words sound t x holds.prefs rules (verdict (chars query)) (λ tree found. (limits (chars query) tree found, plain (chars query) tree found)) in
     record {
-      rows = subst (λ (n : ℕ). n ≤ slot_rows_of m.tables x query) (sym (length-map (rows_meant t x (words_meaning x.prefs query)) unscored)) few.0;
-      texts = λ structured. unless_fewer (catalogue_refusal m.tables x query structured) (texts_meant t x (words_meaning x.prefs query)) (slot_rows_of m.tables x query) few.1;
+      rows = subst (λ (n : ℕ). n ≤ slot_rows_of m.tables x query) (sym (length-map (rows_meant t x (catsearch_meaning x.prefs query)) unscored)) few.0;
+      texts = λ structured. unless_fewer (catalogue_refusal m.tables x query structured) (texts_meant t x (catsearch_meaning x.prefs query)) (slot_rows_of m.tables x query) few.1;
     }
