@@ -1,4 +1,9 @@
 pub mod Comparing
 pub mod Sorting
 pub mod Orders
+pub mod Counts
+pub mod Lexemes
+pub mod Pieces
+pub mod Grammar
+pub mod Reading
 pub mod laws

@@ -1,5 +1,5 @@
 -- Rows in the order asked for.
-use Rattle.std.specs.Prelude.{ℕ, ℤ, ◌≡◌, pos, true, false, List, [], ◌∷◌, map, Option, Some, None, refl}
+use Rattle.std.specs.Prelude.{ℕ, ℤ, ◌≡◌, ◌-◌, pos, true, false, List, [], ◌∷◌, drop, map, take, Option, Some, None, refl}
 use Rattle.std.specs.declared.cmp.Ordering.TheVariants.{Less, Greater}
 use Rattle.std.specs.Ordering.{int_eq}
 use Rattle.std.specs.List.{IsDistinct}
@@ -22,6 +22,10 @@ own_key row = row.key.0
 -- No two rows have the same key. Since rows that tie by all keys of the order compare by their own, such rows have one order only.
 abbrev pub HaveOwnKeys : {T : Type 0} → List (ResultRow T) → Type 0
 HaveOwnKeys rows = IsDistinct int_eq (map own_key rows)
+
+-- those from one number to another, counted from 1; past the end what is there
+abbrev pub cut : {A : Type 0} → ℕ → ℕ → List A → List A
+cut from to xs = drop (from - 1) (take to xs)
 
 -- computed examples: a key, a score and a price, which may be missing
 abbrev row : ℕ → ℕ → Option Value → Ranked
@@ -69,3 +73,12 @@ by_score_and_price = refl
 
 by_own_keys : sorted_by (rank_cmp []) (three ∷ one ∷ two ∷ []) ≡ one ∷ two ∷ three ∷ []
 by_own_keys = refl
+
+the_second_and_third : cut 2 3 (one ∷ two ∷ three ∷ four ∷ []) ≡ two ∷ three ∷ []
+the_second_and_third = refl
+
+what_is_there : cut 2 9 (one ∷ two ∷ three ∷ []) ≡ two ∷ three ∷ []
+what_is_there = refl
+
+nothing_there : cut 5 9 (one ∷ two ∷ three ∷ []) ≡ []
+nothing_there = refl

@@ -1,9 +1,9 @@
-//! The order of rows.
+//! The order of rows, and a cut of them.
 
-ghost use Rattle.std.specs.Prelude.{◌≡◌, IsPermutation};
+ghost use Rattle.std.specs.Prelude.{◌≡◌, ◌≤◌, IsPermutation};
 ghost use Rattle.std.specs.Option.{option_cmp, option_copied};
 ghost use Rattle.rs_result.specs.Comparing.{key_cmp, nth_value, rank_cmp, ranked, turned, value_cmp};
-ghost use Rattle.rs_result.specs.Orders.{AreInOrder, HaveOwnKeys};
+ghost use Rattle.rs_result.specs.Orders.{AreInOrder, HaveOwnKeys, cut};
 ghost use Rattle.rs_result.specs.Sorting.{sorted_by};
 
 use crate::rows::{By, OrderBy, ResultRow};
@@ -11,7 +11,7 @@ use ct_base::Value;
 use std::cmp::Ordering;
 
 /// Compares two values: numbers by size, texts by their bytes, and any number is less than any text.
-fn value_cmp(value: &Value, other: &Value) -> Ordering
+pub(crate) fn value_cmp(value: &Value, other: &Value) -> Ordering
     ensures { result ≡ value_cmp value.now other.now }
 {
     match (value, other) {
@@ -23,7 +23,7 @@ fn value_cmp(value: &Value, other: &Value) -> Ordering
 }
 
 /// The value with this index, where the row has one.
-fn nth_value<T>(column: usize, row: &ResultRow<T>) -> Option<&Value>
+pub(crate) fn nth_value<T>(column: usize, row: &ResultRow<T>) -> Option<&Value>
     ensures { option_copied result ≡ nth_value column (ranked row.now) }
 {
     match row.values.as_slice().get(column) {
@@ -85,4 +85,16 @@ pub fn order<T>(rows: &mut [ResultRow<T>], by: &[OrderBy])
     ensures sorted { HaveOwnKeys rows.old → rows.new ≡ sorted_by (λ a b. rank_cmp by.now (ranked a) (ranked b)) rows.old }
 {
     rows.sort_unstable_by(|row, other| row_cmp(by, row, other));
+}
+
+/// The rows from the one with this number to that with the other, counted from 1; past the end it gives what is there. It looks at no
+/// row.
+pub fn between<T>(rows: &[ResultRow<T>], from: u32, to: u32) -> &[ResultRow<T>]
+    requires begins { 1 ≤ from }
+    requires ends { from ≤ to }
+    ensures { result.now ≡ cut from to rows.now }
+{
+    let (until, _) = rows.split_at(rows.len().min(to as usize));
+    let (_, rest) = until.split_at(until.len().min(from as usize - 1));
+    rest
 }

@@ -1,17 +1,18 @@
 -- What holds of the order of rows.
-use Rattle.std.specs.Prelude.{◌≡◌, Bool, true, false, List, [], ◌∷◌, map, refl}
-use Rattle.std.proofs.Common.{ap, subst, ◌∙◌}
+use Rattle.std.specs.Prelude.{ℕ, ℤ, ◌<ℤ◌, ◌≡◌, Bool, true, false, List, [], ◌∷◌, map, refl}
+use Rattle.std.proofs.Common.{ap, ap₂, subst, ◌∙◌}
 use Rattle.std.specs.declared.cmp.Ordering.{Ordering}
 use Rattle.std.specs.declared.cmp.Ordering.TheVariants.{Less, Equal, Greater}
-use Rattle.std.specs.Ordering.{eq_by_cmp, flip_args, int_cmp, int_eq, is_eq, is_lt, ordering_reverse, ordering_then}
+use Rattle.std.specs.Ordering.{MatchOrdering, eq_by_cmp, flip_args, int_cmp, int_eq, is_eq, is_lt, nat_cmp, ordering_reverse, ordering_then}
 use Rattle.std.specs.Cmp.{IsTotalOrder}
-use Rattle.std.specs.Cmp.Lexicographic.{options_total}
+use Rattle.std.specs.Cmp.Lexicographic.{options_total, slice_cmp}
 use Rattle.std.specs.List.{AllByRecursion, IsDistinct}
 use Rattle.std.specs.List.Sorted.{IsStrictlySortedBy}
-use Rattle.std.proofs.lemmas.Cmp.{back_total, int_cmp_total, nat_cmp_total, nat_list_cmp_total, on_total, then_total}
+use Rattle.std.proofs.lemmas.Cmp.{back_total, int_cmp_total, int_ranked, nat_cmp_total, nat_list_cmp_total, on_total, then_total}
 use Rattle.std.proofs.lemmas.Map.Keys.{IsDistinct-from_sorted, sorted_head, sorted_tail}
 use Rattle.ct_base.specs.declared.lists.Value.{Value}
 use Rattle.ct_base.specs.declared.lists.Value.TheVariants.{Number, Text}
+use Rattle.ct_base.specs.laws.Orders.{eq_from_equal}
 use Rattle.rs_result.specs.declared.rows.ResultRow.{ResultRow}
 use Rattle.rs_result.specs.declared.rows.By.{By}
 use Rattle.rs_result.specs.declared.rows.By.TheVariants.{Score, Column}
@@ -21,7 +22,7 @@ use Rattle.rs_result.specs.Orders.{HaveOwnKeys, own_key}
 use Rattle.rs_result.specs.Sorting.{sorted_by}
 use Rattle.rs_result.specs.laws.Sorting.{IsAtMostFirst, Rises, rising_stays}
 
--- ---- the comparison is a total order
+-- ---- the comparison of values is a total order
 
 -- a comparison that answers as a total order does is one
 same_total : {K : Type 0} (R S : K → K → Ordering) → IsTotalOrder R → ((x y : K) → R x y ≡ S x y) → IsTotalOrder S
@@ -51,6 +52,30 @@ values_alike (Text r) (Text s) (Text t) e = nat_list_cmp_total.congr r s t e
 
 pub value_cmp_total : IsTotalOrder value_cmp
 value_cmp_total = record { antisymm = values_back; trans = values_chain; congr = values_alike }
+
+-- ---- values that tie are the same
+
+same_number : (n k : ℤ) → int_cmp n k ≡ Equal → n ≡ k
+same_number n k e = subst (λ o. MatchOrdering o (n <ℤ k) (n ≡ k) (k <ℤ n)) e (int_ranked n k (int_cmp n k) refl)
+
+both_tie : (o r : Ordering) → ordering_then o r ≡ Equal → (o ≡ Equal) × (r ≡ Equal)
+both_tie Less r e = cc
+both_tie Equal r e = (refl, e)
+both_tie Greater r e = cc
+
+same_text : (s t : List ℕ) → slice_cmp nat_cmp s t ≡ Equal → s ≡ t
+same_text [] [] e = refl
+same_text [] (y ∷ ys) e = cc
+same_text (x ∷ xs) [] e = cc
+same_text (x ∷ xs) (y ∷ ys) e = let both = both_tie (nat_cmp x y) (slice_cmp nat_cmp xs ys) e in ap₂ ◌∷◌ (eq_from_equal x y both.0) (same_text xs ys both.1)
+
+pub values_tie : (v w : Value) → value_cmp v w ≡ Equal → v ≡ w
+values_tie (Number n) (Number k) e = ap Number (same_number n k e)
+values_tie (Number n) (Text t) e = cc
+values_tie (Text s) (Number k) e = cc
+values_tie (Text s) (Text t) e = ap Text (same_text s t e)
+
+-- ---- the comparison of rows is a total order
 
 by_cmp_total : (by : By) → IsTotalOrder (by_cmp by)
 by_cmp_total Score = on_total (λ (r : Ranked). r.score) nat_cmp_total

@@ -72,7 +72,7 @@ module _ {X : Type 0} (cmp : X → X → Ordering) where
       go true e more = (still_first x y ys (order.one_way y x e) up.0, more)
       go false e more = (e, up)
 
-  sorted_rises : IsStrictWeakOrder (λ x y. is_lt (cmp x y)) → (xs : List X) → Rises (sorted_by cmp xs)
+  pub sorted_rises : IsStrictWeakOrder (λ x y. is_lt (cmp x y)) → (xs : List X) → Rises (sorted_by cmp xs)
   sorted_rises order [] = tt
   sorted_rises order (x ∷ xs) = insert_rises order x (sorted_by cmp xs) (sorted_rises order xs)
 
@@ -85,7 +85,7 @@ module _ {X : Type 0} (cmp : X → X → Ordering) where
   in_order_from_rises [] up = λ k d from until. absurd (omega (arith, until))
   in_order_from_rises (x ∷ xs) up = in_order_cons x xs up.0 (in_order_from_rises xs up.1)
 
-  rises_from_in_order : (xs : List X) → IsSorted cmp xs → Rises xs
+  pub rises_from_in_order : (xs : List X) → IsSorted cmp xs → Rises xs
   rises_from_in_order [] up = tt
   rises_from_in_order (x ∷ []) up = (tt, tt)
   rises_from_in_order (x ∷ y ∷ ys) up =

@@ -1,0 +1,4 @@
+pub mod Steps
+pub mod Cuts
+pub mod Agreement
+pub mod Counted
