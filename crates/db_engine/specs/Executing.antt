@@ -106,7 +106,7 @@ is_fixed_call SyncIndex args = false
 is_fixed_call (Define definition) args = false
 is_fixed_call (Thesaurus procedure) args = false
 
--- Whether the reply to a statement is the same in every state: it asks of a text alone, is COMMIT, or isn't built yet.
+-- Whether the reply to a statement is the same in every state: it asks of a text alone, is COMMIT, or makes an index of a type that isn't built yet.
 abbrev pub is_fixed : Statement → Bool
 is_fixed (CreateTable name columns) = false
 is_fixed (CreateIndex name table column kind parameters parallel) = not (is_built_index kind parallel)

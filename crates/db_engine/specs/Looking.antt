@@ -11,10 +11,11 @@ use Rattle.st_parse.specs.declared.statements.Whole.TheVariants.{Fits}
 use Rattle.db_looks.specs.Allowances.{Allowance, unbounded, LooksOver}
 use Rattle.db_state.specs.States.{StoreState, StandsForState}
 use Rattle.db_select.specs.Looking.{select_allowance}
+use Rattle.db_select.specs.Choosing.{selection}
 
 -- WHAT A STATEMENT MAY LOOK UP of a content that stands for a state. Something is said of searches alone.
 abbrev pub allowance : Content → StoreState → Statement → Allowance
-allowance c m (Select list table preds orders) = select_allowance c m list table preds
+allowance c m (Select list table preds orders) = select_allowance c m (selection list orders) table preds
 allowance c m (CreateTable name columns) = unbounded
 allowance c m (CreateIndex name table column kind parameters parallel) = unbounded
 allowance c m (Insert table columns values) = unbounded

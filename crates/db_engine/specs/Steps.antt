@@ -31,6 +31,7 @@ use Rattle.db_change.specs.Deleting.{delete_from}
 use Rattle.db_change.specs.Dropping.{drop_table}
 use Rattle.db_index.specs.Dropping.{drop_index}
 use Rattle.db_select.specs.Statements.{select_statement}
+use Rattle.db_select.specs.Choosing.{selection}
 use Rattle.db_index.specs.Tokenizing.{policy_tokens}
 use Rattle.db_index.specs.Syncing.{sync_index}
 use Rattle.db_prefs.specs.Defining.{define}
@@ -65,7 +66,7 @@ abbrev pub effect : StoreState → Statement → Effect
 effect m (CreateTable name columns) = create_table m name columns
 effect m (CreateIndex name table column kind parameters parallel) = create_index_if (built_index kind parallel) m name table column parameters
 effect m (Insert table columns values) = insert_into m table columns values
-effect m (Select list table preds orders) = select_statement m list table preds
+effect m (Select list table preds orders) = select_statement m (selection list orders) table preds
 effect m (Exec procedure args) = call m procedure args
 effect m (DropTable name) = drop_table m name
 effect m (DropIndex name) = drop_index m name

@@ -130,8 +130,17 @@ fn reply_to<R: Threads + Sync, K: Keeper>(
             list,
             table,
             preds,
-            ..
-        } => select(alloc, keeper, list, table, preds.as_slice()),
+            orders,
+        } => {
+            select(
+                alloc,
+                keeper,
+                list,
+                table,
+                preds.as_slice(),
+                orders.as_slice(),
+            )
+        }
         Statement::Exec { procedure, args } => call(rt, alloc, degree, keeper, *procedure, args),
         Statement::DropTable { name } => drop_table(alloc, keeper, name),
         Statement::DropIndex { name } => drop_index(alloc, keeper, name),

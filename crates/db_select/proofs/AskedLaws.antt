@@ -1,13 +1,14 @@
 -- Of the rows that a search finds those that it asks for.
-use Rattle.std.proofs.Common.{◌≡◌, ℕ, ℤ, Bool, true, false, cond, List, [], ◌∷◌, ◌++◌, length, map, Option, Some, refl, sym, ap, subst, ◌∙◌, ◌≤◌, ◌*◌, Result, Ok, Err, Vec, arith}
+use Rattle.std.proofs.Common.{◌≡◌, ℕ, ℤ, Bool, true, false, cond, List, [], ◌∷◌, ◌++◌, length, map, Option, Some, None, refl, sym, ap, subst, ◌∙◌, ◌≤◌, ◌*◌, Result, Ok, Err, Vec, arith}
 use Rattle.std.specs.Prelude.{◌&&◌, filter}
-use Rattle.std.specs.FinMap.{get}
+use Rattle.std.specs.FinMap.{entries, get}
 use Rattle.std.specs.Ordering.{int_cmp, is_lt}
 use Rattle.std.specs.declared.alloc.Global.{Global}
 use Rattle.std.proofs.lemmas.Bool.{and_from, and_parts}
 use Rattle.std.proofs.lemmas.List.Folds.{list_all-append}
 use Rattle.ct_keep.specs.KeeperViews.{Counts}
 use Rattle.ct_keep.specs.declared.keepers.KeepFault.{KeepFault}
+use Rattle.ct_keep.specs.laws.RisingKeys.{below, entries_rise, rises}
 use Rattle.ct_entry.specs.laws.Rows.{keys_below, keys_rise_by}
 use Rattle.st_parse.specs.declared.statements.Cond.{Cond}
 use Rattle.st_parse.specs.declared.statements.OrderItem.{OrderItem}
@@ -29,17 +30,18 @@ use Rattle.db_find.specs.Searches.{Search}
 use Rattle.db_find.specs.Seeking.{index_of_search}
 use Rattle.db_find.specs.Structured.{asked_where}
 use Rattle.db_select.specs.declared.finds.FoundRow.{FoundRow}
-use Rattle.db_select.specs.Hits.{GivesAsked, HoldOwn, all_conds, asked_rows, hits, hits_of, rows_left}
+use Rattle.db_select.specs.Hits.{GivesAsked, HoldOwn, all_conds, asked_rows, found_rows, hits, hits_of, rows_left, unsearched_rows}
 use Rattle.db_select.specs.Fields.{fields_among}
 use Rattle.db_select.specs.Looking.{kept_texts, read_texts, shown_texts}
 use Rattle.db_select.specs.Ordering.{in_order}
 use Rattle.db_select.specs.Ranking.{OrdersRows, order_sources}
+use Rattle.db_select.specs.Choosing.{Selection, asked_by}
 use Rattle.db_select.proofs.HitSteps.{fewer_left, met_are}
 use Rattle.db_select.proofs.ShownLaws.{conds_read, fewer_kept, fewer_shown, orders_kept}
 
 -- ---- all conditions
 
-filter_both : {X : Type 0} (p q : X → Bool) (xs : List X) → filter (λ x. p x && q x) xs ≡ filter q (filter p xs)
+pub filter_both : {X : Type 0} (p q : X → Bool) (xs : List X) → filter (λ x. p x && q x) xs ≡ filter q (filter p xs)
 filter_both p q [] = refl
 filter_both {X} p q (x ∷ xs) = go (p x) (filter_both p q xs)
   where
@@ -101,15 +103,33 @@ rows_asked ts t x w conds all orders found met rows joined lent is own ordered r
     let same : in_order x orders (hit_rows (hits_of met)) ≡ in_order x w.orders (filter p (hit_rows found)) = λ i. in_order x (lent i) (are i) in
     ordered own (ap (λ (hs : List (ℤ × ℕ)). keys_rise_by int_cmp (map (λ h. h.0) hs)) are ∙ rise_filtered p (hit_rows found) rise) ∙ same
 
+-- rows that meet all conditions where nothing is searched, put into the order asked for
+pub walked_are : (m : StoreState) (t : List ℕ) (x : Table) (conds : List Cond) (orders : List OrderItem) (met rows : List FoundRow) → hit_rows (hits_of met) ≡ unsearched_rows m t x conds
+    → HoldOwn m.tables t met → OrdersRows m.tables t x orders met rows → hit_rows (hits_of rows) ≡ in_order x orders (unsearched_rows m t x conds)
+walked_are m t x conds orders met rows are own ordered =
+    let p : ℤ × ℕ → Bool = λ h. key_meets x conds h.0 in
+    let all : keys_rise_by int_cmp (map (λ h. h.0) (found_rows m t x None)) ≡ true = all_rise (entries x.rows) (entries_rise int_cmp x.rows) in
+    ordered own (ap (λ (hs : List (ℤ × ℕ)). keys_rise_by int_cmp (map (λ h. h.0) hs)) are ∙ rise_filtered p (found_rows m t x None) all) ∙ ap (in_order x orders) are
+  where
+    all_below : {V : Type 0} (k : ℤ) (es : List (ℤ × V)) → below int_cmp k es ≡ true → keys_below int_cmp k (map (λ h. h.0) (map {B = ℤ × ℕ} (λ e. (e.0, 0)) es)) ≡ true
+    all_below k [] low = refl
+    all_below k (e ∷ es) low = let both = and_parts (is_lt (int_cmp k e.0)) (below int_cmp k es) low in and_from _ _ both.0 (all_below k es both.1)
+
+    all_rise : {V : Type 0} (es : List (ℤ × V)) → rises int_cmp es ≡ true → keys_rise_by int_cmp (map (λ h. h.0) (map {B = ℤ × ℕ} (λ e. (e.0, 0)) es)) ≡ true
+    all_rise [] up = refl
+    all_rise (e ∷ es) up = let both = and_parts (below int_cmp e.0 es) (rises int_cmp es) up in and_from _ _ (all_below e.0 es both.0) (all_rise es both.1)
+
 -- of enough hits of a search these are the rows that a SELECT gives
-pub searched_are : (m : StoreState) (t : List ℕ) (x : Table) (s : Search) (conds : List Cond) (y : Index) (w : Where) (lent enough : List Hit) (rows : List FoundRow) → index_of_search m t x.columns s ≡ Some y
-    → w ≡ asked_where s → lent ≡ enough → AreEnough x (asked_where s).conds (search_rows m.tables m.thesauri y s) (hit_rows enough) → GivesAsked x w conds lent rows → hit_rows (hits_of rows) ≡ hits m t x (Some s) conds
-searched_are m t x s conds y w lent enough rows needed asks same are gives =
-    let lent_rows : asked_rows x w conds (hit_rows lent) ≡ asked_rows x (asked_where s) conds (hit_rows enough) = λ i. asked_rows x (asks i) conds (hit_rows (same i)) in
+pub searched_are : (m : StoreState) (t : List ℕ) (x : Table) (want : Selection) (s : Search) (conds : List Cond) (y : Index) (w : Where) (lent enough : List Hit) (rows : List FoundRow) → index_of_search m t x.columns s ≡ Some y
+    → w ≡ asked_where s → lent ≡ enough → AreEnough x (asked_where s).conds (search_rows m.tables m.thesauri y s) (hit_rows enough) → GivesAsked x (asked_by want w) conds lent rows
+    → hit_rows (hits_of rows) ≡ hits m t x want (Some s) conds
+searched_are m t x want s conds y w lent enough rows needed asks same are gives =
+    let lent_rows : asked_rows x (asked_by want w) conds (hit_rows lent) ≡ asked_rows x (asked_by want (asked_where s)) conds (hit_rows enough) =
+    λ i. asked_rows x (asked_by want (asks i)) conds (hit_rows (same i)) in
     gives (ap (λ (l : List Hit). keys_rise_by int_cmp (map (λ h. h.0) (hit_rows l))) same ∙ are.rise)
     ∙ lent_rows
-    ∙ enough_asked x (asked_where s) conds (search_rows m.tables m.thesauri y s) (hit_rows enough) are
-    ∙ sym (ap (λ (i : Option Index). asked_rows x (asked_where s) conds (found_in m.tables m.thesauri i s)) needed)
+    ∙ enough_asked x (asked_by want (asked_where s)) conds (search_rows m.tables m.thesauri y s) (hit_rows enough) are
+    ∙ sym (ap (λ (i : Option Index). asked_rows x (asked_by want (asked_where s)) conds (found_in m.tables m.thesauri i s)) needed)
 
 -- ---- the texts that are read
 

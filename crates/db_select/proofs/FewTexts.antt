@@ -1,31 +1,35 @@
 -- A CATSEARCH reads no more texts than rows have a word of its query, times one more than the columns of texts that are named.
-use Rattle.std.proofs.Common.{ℕ, ℤ, ◌≡◌, ◌≤◌, ◌+◌, ◌*◌, List, length, Option, Some, refl, ap, sym, subst, ◌∙◌, arith}
+use Rattle.std.proofs.Common.{ℕ, ℤ, ◌≡◌, ◌≤◌, ◌+◌, ◌*◌, List, length, Option, Some, None, refl, ap, sym, subst, ◌∙◌, arith}
 use Rattle.std.specs.FinMap.{get}
 use Rattle.std.proofs.Math.Nat.{mul-le-mul_right}
 use Rattle.ct_keep.specs.Content.{Content}
 use Rattle.st_parse.specs.declared.statements.Cond.{Cond}
-use Rattle.st_parse.specs.declared.statements.SelectList.{SelectList}
+use Rattle.st_parse.specs.declared.statements.Pred.{Pred}
 use Rattle.tb_table.specs.Tables.{Table}
 use Rattle.ix_kinds.specs.Indextypes.{IndexOf}
 use Rattle.ix_indexes.specs.Indexes.{Index, as_catalogue}
 use Rattle.cat_index.specs.Catalogues.{CatalogueBody}
+use Rattle.db_state.specs.Effects.{Effect, Does, Refused}
 use Rattle.db_state.specs.States.{StoreState, StandsForState}
-use Rattle.db_find.specs.Few.{CataloguesFindFew, slot_rows_of}
+use Rattle.db_find.specs.WordRows.{CataloguesFindWordRows, slot_rows_of}
 use Rattle.db_find.specs.Finding.{found_in}
 use Rattle.db_find.specs.Looking.{texts_in_index}
 use Rattle.db_find.specs.Searches.{Search, Catsearch}
 use Rattle.db_find.specs.Seeking.{index_of_search, named_index}
 use Rattle.db_find.specs.laws.Seeking.{named_needs}
 use Rattle.db_select.specs.Hits.{found_rows}
-use Rattle.db_select.specs.Looking.{row_texts, select_texts}
-use Rattle.db_select.specs.Few.{CatsearchReadsFew}
+use Rattle.db_select.specs.Looking.{allowance_by, row_texts, searching_allowance, select_texts}
+use Rattle.db_select.specs.Predicates.{conds_in}
+use Rattle.db_select.specs.Statements.{select_statement}
+use Rattle.db_select.specs.Choosing.{Selection}
+use Rattle.db_select.specs.Few.{CatsearchMayReadFew, CatsearchReadsFew}
 
 -- n rows of k texts each beside n others are n of one more
 product : (a b n k : ℕ) → a ≤ n → b ≤ n → a + b * k ≤ n * (1 + k)
 product a b n k first second = let times : b * k ≤ n * k = mul-le-mul_right k second in omega (arith, first, times)
 
-pub catsearch_reads_few : CataloguesFindFew → CatsearchReadsFew
-catsearch_reads_few find_few c m t x i y list column query structured conds stands there named =
+pub catsearch_reads_few : CataloguesFindWordRows → CatsearchReadsFew
+catsearch_reads_few find_few c m t x i y want column query structured conds stands there named =
     let s : Search = Catsearch column query structured in
     let needs = named_needs m t x.columns s i (as_catalogue y) named in
     let few = find_few c m i y stands needs.0 query in
@@ -34,4 +38,20 @@ catsearch_reads_few find_few c m t x i y list column query structured conds stan
     subst (λ (o : Option (List ℕ × Index)). texts_in_index m.tables o s ≤ most) (sym named) (few.texts structured) in
     let rows : length (found_rows m t x (Some s)) ≤ most =
     subst (λ (o : Option Index). length (found_in m.tables m.thesauri o s) ≤ most) (sym needs.1) few.rows in
-    product (texts_in_index m.tables (named_index m t x.columns s) s) (length (found_rows m t x (Some s))) most (row_texts list s conds x.columns) texts rows
+    product (texts_in_index m.tables (named_index m t x.columns s) s) (length (found_rows m t x (Some s))) most (row_texts want s conds x.columns) texts rows
+
+-- what a statement with such an effect may read is bounded by what it reads at most
+allowed : (effect : Effect) (c : Content) (m : StoreState) (want : Selection) (t : List ℕ) (x : Table) (conds : List Cond) (s : Search) (most n : ℕ)
+    → select_texts m t x want s conds ≤ most → (allowance_by c m want t conds s effect (Some x)).texts ≡ Some n → n ≤ most
+allowed (Refused refusal) c m want t x conds s most n within is = let none : 0 ≡ n = cc in omega (arith, none)
+allowed (Does next reply) c m want t x conds s most n within is = let texts : select_texts m t x want s conds ≡ n = cc in omega (arith, texts, within)
+
+pub catsearch_may_read_few : CataloguesFindWordRows → CatsearchMayReadFew
+catsearch_may_read_few find_few c m t x i y want column query structured preds n stands there search named is =
+    let s : Search = Catsearch column query structured in
+    let conds = conds_in preds in
+    let effect = select_statement m want t preds in
+    let searching = subst (λ (o : Option Search). (searching_allowance effect c m want t preds o).texts ≡ Some n) search is in
+    let found = subst (λ (o : Option Table). (allowance_by c m want t conds s effect o).texts ≡ Some n) there searching in
+    allowed effect c m want t x conds s (slot_rows_of m.tables y query * (1 + row_texts want s conds x.columns)) n
+    (catsearch_reads_few find_few c m t x i y want column query structured conds stands there named) found

@@ -1,5 +1,5 @@
 -- The rows that meet conditions, among those that were found.
-use Rattle.std.proofs.Common.{◌≡◌, ◌<◌, ◌≤◌, ◌+◌, ◌*◌, ℕ, suc, ℤ, Bool, List, [], ◌∷◌, ◌++◌, length, map, get_or, take, drop, Option, None, refl, sym, ap, subst, ◌∙◌, add-one, arith}
+use Rattle.std.proofs.Common.{◌≡◌, ◌<◌, ◌≤◌, ◌+◌, ◌*◌, ℕ, suc, ℤ, Bool, List, [], ◌∷◌, ◌++◌, length, map, get_or, take, drop, Option, refl, sym, ap, subst, ◌∙◌, add-one, arith}
 use Rattle.std.specs.Prelude.{filter}
 use Rattle.std.specs.Bool.{if◌then◌else◌}
 use Rattle.std.specs.List.{AllByRecursion}
@@ -28,7 +28,7 @@ use Rattle.db_rows.specs.declared.walking.MetRow.{MetRow}
 use Rattle.db_rows.specs.laws.Texts.{leaves_still}
 use Rattle.db_find.specs.laws.Filtering.{filter_mapped}
 use Rattle.db_select.specs.declared.finds.FoundRow.{FoundRow}
-use Rattle.db_select.specs.Hits.{HoldOwn, hits, hits_of, rows_left, unscored}
+use Rattle.db_select.specs.Hits.{HoldOwn, hits_of, rows_left, unscored, unsearched_rows}
 use Rattle.db_select.proofs.SelectLaws.{map_map}
 
 -- of the first `i` rows those that meet the conditions were put
@@ -80,7 +80,7 @@ paired [] = refl
 paired (row ∷ rows) = ap (λ (l : List (ℤ × ℕ)). (row.key.0, 0) ∷ l) (paired rows)
 
 pub unsearched_are : (m : StoreState) (t : List ℕ) (x : Table) (conds : List Cond) (rows : List MetRow) (all : List FoundRow) → map (λ key. key.0) (met_keys rows) ≡ meeting_keys x conds → all ≡ map unscored rows
-    → hit_rows (hits_of all) ≡ hits m t x None conds
+    → hit_rows (hits_of all) ≡ unsearched_rows m t x conds
 unsearched_are m t x conds rows all met is =
     let pair : ℤ → ℤ × ℕ = λ r. (r, 0) in
     let entry_pair : ℤ × List Value → ℤ × ℕ = λ e. (e.0, 0) in

@@ -1,6 +1,6 @@
 -- What a SELECT with a search does where its index is there, and its values and numbers pass.
 use Rattle.std.proofs.Common.{◌≡◌, ◌≤◌, ◌*◌, Bool, List, [], ◌∷◌, ℕ, ℤ, length, Option, Some, None, Vec, sym, ap, subst, ◌∙◌}
-use Rattle.std.specs.Prelude.{not, ◌||◌}
+use Rattle.std.specs.Prelude.{◌||◌}
 use Rattle.std.specs.FinMap.{get}
 use Rattle.std.specs.declared.alloc.Global.{Global}
 use Rattle.ct_keep.specs.Content.{Content}
@@ -14,7 +14,6 @@ use Rattle.ix_indexes.specs.Indexes.{AreIndexes, Index}
 use Rattle.ix_search.specs.declared.hits.Hit.{Hit}
 use Rattle.ix_search.specs.Hits.{hit_rows}
 use Rattle.st_parse.specs.declared.statements.Cond.{Cond}
-use Rattle.st_parse.specs.declared.statements.SelectList.{SelectList}
 use Rattle.st_parse.specs.declared.statements.Whole.{Whole}
 use Rattle.tb_table.specs.declared.columns.Column.{Column}
 use Rattle.tb_table.specs.Rules.{AreTables}
@@ -23,7 +22,7 @@ use Rattle.cat_where.specs.declared.stages.Where.{Where}
 use Rattle.db_cond.specs.Faults.{Refusal}
 use Rattle.db_state.specs.Effects.{Does, Effect, refuse_by}
 use Rattle.db_state.specs.States.{StoreState}
-use Rattle.db_rows.specs.Checking.{fit_columns, has_beyond}
+use Rattle.db_rows.specs.Checking.{has_beyond}
 use Rattle.db_rows.specs.Texts.{RisesLeaving, texts_alone}
 use Rattle.db_find.specs.declared.finding.Found.{Found}
 use Rattle.db_find.specs.declared.finding.Found.TheVariants.{Refused, Rows as FoundRows}
@@ -35,32 +34,33 @@ use Rattle.db_find.specs.Structured.{asked_where}
 use Rattle.db_find.specs.laws.Seeking.{needed_answers, needed_is_on, needed_named}
 use Rattle.db_select.specs.declared.finds.FoundRow.{FoundRow}
 use Rattle.db_select.specs.declared.finds.Selected.TheVariants.{Refused as RefusedFound, Rows}
-use Rattle.db_select.specs.Checking.{check_parts, fit_labels, is_out_of_range}
+use Rattle.db_select.specs.Checking.{check_parts, has_wrong_values, is_out_of_range}
 use Rattle.db_select.specs.Hits.{GivesAsked, all_conds, found_rows, hits}
 use Rattle.db_select.specs.Listing.{rows_reply}
 use Rattle.db_select.specs.Looking.{read_texts}
 use Rattle.db_select.specs.Predicates.{label_in}
 use Rattle.db_select.specs.Selecting.{Selects, select_rows}
+use Rattle.db_select.specs.Choosing.{Selection, asked_by}
 use Rattle.db_select.proofs.AskedLaws.{searched_are}
 use Rattle.db_select.proofs.SearchLooks.{most_by, rows_met, search_alone}
 use Rattle.db_select.proofs.SelectLaws.{by_index, by_query, few_columns, has_needed}
 
 -- The search has an index, with this name; and behind the checks the SELECT is refused as the search is, or lists its rows.
-pub record IsKnownSearch (m : StoreState) (t : List ℕ) (x : Table) (list : SelectList) (s : Search) (conds : List Cond) (i : List ℕ) : Type 0 where
+pub record IsKnownSearch (m : StoreState) (t : List ℕ) (x : Table) (want : Selection) (s : Search) (conds : List Cond) (i : List ℕ) : Type 0 where
   pub index : Index
   pub there : get m.indexes i ≡ Some index
   pub here : index_of_search m t x.columns s ≡ Some index
   pub table : table_at m.tables index.table ≡ x
   pub answers : Answers m.tables index x.columns s
   pub named : named_index m t x.columns s ≡ Some (i, index)
-  pub effect : select_rows m t x list (Some s) conds ≡ refuse_by (search_refusal m.tables m.thesauri index s) (λ refusal. refusal) (Does m (rows_reply m.tables t x.columns list (hits m t x (Some s) conds)))
+  pub effect : select_rows m t x want (Some s) conds ≡ refuse_by (search_refusal m.tables m.thesauri index s) (λ refusal. refusal) (Does m (rows_reply m.tables t x.columns want.list (hits m t x want (Some s) conds)))
 
-module _ (m : StoreState) (t : List ℕ) (x : Table) (list : SelectList) (s : Search) (conds : List Cond) (columns : List Column) (same : x.columns ≡ columns) where
+module _ (m : StoreState) (t : List ℕ) (x : Table) (want : Selection) (s : Search) (conds : List Cond) (columns : List Column) (same : x.columns ≡ columns) where
   -- the index that was found, and the answers of the checks
   pub known_search : (i : List ℕ) (found : Option (List ℕ)) (w o : Bool) (label : Option Whole) → AreTables m.tables → AreIndexes m.tables m.indexes → get m.tables t ≡ Some x
       → (length columns ≤ 256 → NeedsIndex m t columns s found) → found ≡ Some i
-      → w ≡ (not (fit_labels list label) || not (fit_columns columns conds)) → label ≡ label_in (Some s) → o ≡ (is_out_of_range (Some s) || has_beyond conds)
-      → ((done : Effect) → check_parts w o done ≡ done) → IsKnownSearch m t x list s conds i
+      → w ≡ has_wrong_values columns want label conds → label ≡ label_in (Some s) → o ≡ (is_out_of_range (Some s) || has_beyond conds)
+      → ((done : Effect) → check_parts w o done ≡ done) → IsKnownSearch m t x want s conds i
   known_search i found w o label tables indexes there needs found_is wrong label_is out passes =
       let needed : NeedsIndex m t x.columns s (Some i) =
       subst (λ (cs : List Column). NeedsIndex m t cs s (Some i)) (sym same) (subst (NeedsIndex m t columns s) found_is (needs (few_columns m t x columns tables there same))) in
@@ -72,11 +72,11 @@ module _ (m : StoreState) (t : List ℕ) (x : Table) (list : SelectList) (s : Se
         answers = needed_answers m t x s i there needed;
         named = needed_named m t x.columns s i indexes needed;
         effect =
-            by_query m t x list (Some s) conds columns same w o (wrong ∙ ap (λ (l : Option Whole). not (fit_labels list l) || not (fit_columns columns conds)) label_is) out (has_needed m t x s needed.0 needed.1.1) passes
+            by_query m t x want (Some s) conds columns same w o (wrong ∙ ap (λ (l : Option Whole). has_wrong_values columns want l conds) label_is) out (has_needed m t x s needed.0 needed.1.1) passes
             (search_refusal m.tables m.thesauri needed.0 s) (by_index m t x s needed.0 needed.1.1);
       }
 
-module _ {m : StoreState} {t : List ℕ} {x : Table} {list : SelectList} {s : Search} {conds : List Cond} {i : List ℕ} (known : IsKnownSearch m t x list s conds i) where
+module _ {m : StoreState} {t : List ℕ} {x : Table} {want : Selection} {s : Search} {conds : List Cond} {i : List ℕ} (known : IsKnownSearch m t x want s conds i) where
   -- with the columns as code holds them
   pub known_answers : (columns : List Column) → x.columns ≡ columns → Answers m.tables known.index columns s
   known_answers columns same = subst (λ (cs : List Column). Answers m.tables known.index cs s) same known.answers
@@ -92,34 +92,34 @@ module _ {m : StoreState} {t : List ℕ} {x : Table} {list : SelectList} {s : Se
       (subst (λ (y : Table). GivesFound (search_refusal m.tables m.thesauri known.index s) y (search_rows m.tables m.thesauri known.index s) (asked_where s) found) known.table gives)
 
   -- where its query is refused
-  pub refused_search : (line : Vec ℕ Global) → GivesKnown (Refused line) → Selects m t x list (Some s) conds (RefusedFound line)
+  pub refused_search : (line : Vec ℕ Global) → GivesKnown (Refused line) → Selects m t x want (Some s) conds (RefusedFound line)
   refused_search line gives =
-      (gives.0, (known.effect ∙ ap (λ (r : Option Refusal). refuse_by r (λ refusal. refusal) (Does m (rows_reply m.tables t x.columns list (hits m t x (Some s) conds)))) gives.1.0, gives.1.1))
+      (gives.0, (known.effect ∙ ap (λ (r : Option Refusal). refuse_by r (λ refusal. refusal) (Does m (rows_reply m.tables t x.columns want.list (hits m t x want (Some s) conds)))) gives.1.0, gives.1.1))
 
   -- and where it isn't
-  pub not_refused : search_refusal m.tables m.thesauri known.index s ≡ None → select_rows m t x list (Some s) conds ≡ Does m (rows_reply m.tables t x.columns list (hits m t x (Some s) conds))
-  not_refused none = known.effect ∙ ap (λ (r : Option Refusal). refuse_by r (λ refusal. refusal) (Does m (rows_reply m.tables t x.columns list (hits m t x (Some s) conds)))) none
+  pub not_refused : search_refusal m.tables m.thesauri known.index s ≡ None → select_rows m t x want (Some s) conds ≡ Does m (rows_reply m.tables t x.columns want.list (hits m t x want (Some s) conds))
+  not_refused none = known.effect ∙ ap (λ (r : Option Refusal). refuse_by r (λ refusal. refusal) (Does m (rows_reply m.tables t x.columns want.list (hits m t x want (Some s) conds)))) none
 
-  pub passed_search : (w : Where) (lent : List Hit) (enough : Vec Hit Global) (rows : Vec FoundRow Global) → GivesKnown (FoundRows enough w) → lent ≡ enough.items → GivesAsked x w conds lent rows.items
-      → Selects m t x list (Some s) conds (Rows rows)
+  pub passed_search : (w : Where) (lent : List Hit) (enough : Vec Hit Global) (rows : Vec FoundRow Global) → GivesKnown (FoundRows enough w) → lent ≡ enough.items → GivesAsked x (asked_by want w) conds lent rows.items
+      → Selects m t x want (Some s) conds (Rows rows)
   passed_search w lent enough rows gives same asked =
-      (not_refused gives.0, searched_are m t x s conds known.index w lent enough.items rows.items known.here gives.1.0 same gives.1.1 asked)
+      (not_refused gives.0, searched_are m t x want s conds known.index w lent enough.items rows.items known.here gives.1.0 same gives.1.1 asked)
 
   -- ---- what was looked up
 
   -- the index, and what the search looks at
   pub known_alone : (c : Content) (looking : QueriesLookFew) (a b d : Counts) → RisesBy (scan_looks (code kind.Indexes ∷ []) c) a b
-      → RisesBy (leaving_rules s d (search_looks c m.tables m.thesauri i known.index s)) b d → RisesLeaving (leaving_rules s d (most_by c m t x list s conds (select_rows m t x list (Some s) conds))) 0 a d
+      → RisesBy (leaving_rules s d (search_looks c m.tables m.thesauri i known.index s)) b d → RisesLeaving (leaving_rules s d (most_by c m t x want s conds (select_rows m t x want (Some s) conds))) 0 a d
   known_alone c looking a b d first second =
-      search_alone c m t x list s conds looking i known.index known.named (select_rows m t x list (Some s) conds) (rows_reply m.tables t x.columns list (hits m t x (Some s) conds)) a b d known.effect first second
+      search_alone c m t x want s conds looking i known.index known.named (select_rows m t x want (Some s) conds) (rows_reply m.tables t x.columns want.list (hits m t x want (Some s) conds)) a b d known.effect first second
 
   -- and what was read of rows that it found, which are no more than all
   pub known_rows : (c : Content) (looking : QueriesLookFew) (columns : List Column) (w : Where) (lent : List Hit) (enough : Vec Hit Global) (left : ℕ) (a b d e : Counts) → x.columns ≡ columns
       → GivesKnown (FoundRows enough w) → lent ≡ enough.items → RisesBy (scan_looks (code kind.Indexes ∷ []) c) a b
-      → RisesBy (leaving_rules s d (search_looks c m.tables m.thesauri i known.index s)) b d → RisesLeaving (texts_alone (length lent * length (read_texts list w.orders (all_conds w conds) columns))) left d e
-      → RisesLeaving (leaving_rules s e (most_by c m t x list s conds (select_rows m t x list (Some s) conds))) left a e
+      → RisesBy (leaving_rules s d (search_looks c m.tables m.thesauri i known.index s)) b d → RisesLeaving (texts_alone (length lent * length (read_texts want.list (asked_by want w).orders (all_conds w conds) columns))) left d e
+      → RisesLeaving (leaving_rules s e (most_by c m t x want s conds (select_rows m t x want (Some s) conds))) left a e
   known_rows c looking columns w lent enough left a b d e same gives lent_is first second third =
       let few : length (hit_rows enough.items) ≤ length (found_rows m t x (Some s)) =
       subst (λ (rows : List (ℤ × ℕ)). length (hit_rows enough.items) ≤ length rows) (sym (ap (λ (o : Option Index). found_in m.tables m.thesauri o s) known.here)) gives.1.1.few in
-      rows_met c m t x list s conds looking i known.index known.named (select_rows m t x list (Some s) conds) (rows_reply m.tables t x.columns list (hits m t x (Some s) conds)) columns w lent enough.items left a b d e
+      rows_met c m t x want s conds looking i known.index known.named (select_rows m t x want (Some s) conds) (rows_reply m.tables t x.columns want.list (hits m t x want (Some s) conds)) columns w lent enough.items left a b d e
       (not_refused gives.0) same gives.1.0 lent_is few first second third

@@ -2,6 +2,7 @@ pub mod AskedLaws
 pub mod FewTexts
 pub mod FieldLaws
 pub mod FieldSteps
+pub mod FirstItems
 pub mod HitSteps
 pub mod KnownSearches
 pub mod LineSteps

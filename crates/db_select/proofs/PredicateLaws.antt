@@ -2,11 +2,12 @@
 use Rattle.std.proofs.Common.{◌≡◌, ℕ, Bool, true, false, cond, List, [], ◌∷◌, ◌++◌, Some, None, refl, ap, ◌∙◌}
 use Rattle.st_parse.specs.declared.statements.Item.{Item}
 use Rattle.st_parse.specs.declared.statements.Item.TheVariants.{Column as ColumnItem, Score}
+use Rattle.st_parse.specs.declared.statements.OrderItem.{OrderItem}
 use Rattle.st_parse.specs.declared.statements.Whole.{Whole}
 use Rattle.tb_table.specs.declared.columns.Column.{Column}
 use Rattle.tb_table.specs.Rules.{has_column}
 use Rattle.db_state.specs.Columns.{first_unknown}
-use Rattle.db_select.specs.Predicates.{columns_among}
+use Rattle.db_select.specs.Predicates.{columns_among, order_columns}
 
 -- a column that is there, one that isn't, and a score
 pub column_there : (items rest : List Item) (item : Item) (columns : List Column) (name : List ℕ) → items ≡ item ∷ rest → item ≡ ColumnItem name → has_column name columns ≡ true → first_unknown (columns_among items) columns ≡ first_unknown (columns_among rest) columns
@@ -42,3 +43,14 @@ unknown_second (n ∷ ns) more columns is = go (has_column n columns) is (unknow
     go : (b : Bool) → cond b (first_unknown ns columns) (Some n) ≡ None → (first_unknown ns columns ≡ None → first_unknown (ns ++ more) columns ≡ first_unknown more columns) → cond b (first_unknown (ns ++ more) columns) (Some n) ≡ first_unknown more columns
     go true is rest = rest is
     go false is rest = cc
+
+-- an item of an order whose column isn't there, and one that names none or one that is there
+pub order_missing : (orders rest : List OrderItem) (o : OrderItem) (columns : List Column) (name : List ℕ) → orders ≡ o ∷ rest → first_unknown (columns_among (o.item ∷ [])) columns ≡ Some name
+    → first_unknown (order_columns orders) columns ≡ Some name
+order_missing orders rest o columns name is missing =
+    ap (λ (os : List OrderItem). first_unknown (order_columns os) columns) is ∙ unknown_first (columns_among (o.item ∷ [])) (order_columns rest) columns name missing
+
+pub order_there : (orders rest : List OrderItem) (o : OrderItem) (columns : List Column) → orders ≡ o ∷ rest → first_unknown (columns_among (o.item ∷ [])) columns ≡ None
+    → first_unknown (order_columns orders) columns ≡ first_unknown (order_columns rest) columns
+order_there orders rest o columns is there =
+    ap (λ (os : List OrderItem). first_unknown (order_columns os) columns) is ∙ unknown_second (columns_among (o.item ∷ [])) (order_columns rest) columns there

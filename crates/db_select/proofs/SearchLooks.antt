@@ -10,7 +10,7 @@ use Rattle.ct_entry.specs.declared.kinds.Kind.TheVariants as kind
 use Rattle.ct_entry.specs.Kinds.{code}
 use Rattle.st_parse.specs.declared.statements.Cond.{Cond}
 use Rattle.st_parse.specs.declared.statements.Pred.{Pred}
-use Rattle.st_parse.specs.declared.statements.SelectList.{SelectList}
+use Rattle.st_parse.specs.declared.statements.OrderItem.{OrderItem}
 use Rattle.tb_table.specs.declared.columns.Column.{Column}
 use Rattle.tb_table.specs.Tables.{Table}
 use Rattle.ix_search.specs.declared.hits.Hit.{Hit}
@@ -36,6 +36,7 @@ use Rattle.db_select.specs.Pending.{is_bare}
 use Rattle.db_select.specs.Predicates.{conds_in}
 use Rattle.db_select.specs.Selecting.{select_rows}
 use Rattle.db_select.specs.laws.Allowing.{leaving_rows, leaving_texts}
+use Rattle.db_select.specs.Choosing.{Selection, asked_by}
 
 -- ---- where nothing is said of rules
 
@@ -61,9 +62,9 @@ leaving_whole (Catsearch column query structured) most looks n left a b d e text
 
 -- ---- the rows that are found
 
-module _ (c : Content) (m : StoreState) (t : List ℕ) (x : Table) (list : SelectList) (s : Search) (conds : List Cond) where
+module _ (c : Content) (m : StoreState) (t : List ℕ) (x : Table) (want : Selection) (s : Search) (conds : List Cond) where
   abbrev pub most_by : Effect → Counts
-  most_by effect = looks_by effect (index_looks c) (found_looks c m t x list s conds)
+  most_by effect = looks_by effect (index_looks c) (found_looks c m t x want s conds)
 
   -- where it is left behind the search for the index
   index_first : (effect : Effect) (a b : Counts) → RisesBy (scan_looks (code kind.Indexes ∷ []) c) a b → RisesLeaving (most_by effect) 0 a b
@@ -96,7 +97,7 @@ module _ (c : Content) (m : StoreState) (t : List ℕ) (x : Table) (list : Selec
         let rules = ap (λ (k : Counts). k.rules) looks_are in
         let texts_behind = leaving_texts s searched b d second in
         let rows_behind = leaving_rows s searched b d second in
-        leaving_whole s (found_looks c m t x list s conds) searched (scan_looks (code kind.Indexes ∷ []) c).rules 0 a b d d
+        leaving_whole s (found_looks c m t x want s conds) searched (scan_looks (code kind.Indexes ∷ []) c).rules 0 a b d d
         (omega (arith, none, search_reads, first.texts, texts_behind)) (omega (arith, rows, first.rows, rows_behind)) first.rules second (omega arith) (omega (arith, rules))
     by_refusal lines a b d (Some refusal) is first second =
         let none = indexes_texts c in
@@ -115,65 +116,65 @@ module _ (c : Content) (m : StoreState) (t : List ℕ) (x : Table) (list : Selec
     -- where rows were asked of those that were found, of which so many texts are left
     pub rows_met : (effect : Effect) (lines : List ℕ) (columns : List Column) (w : Where) (lent found : List Hit) (left : ℕ) (a b d e : Counts) → effect ≡ Does m lines → x.columns ≡ columns → w ≡ asked_where s
         → lent ≡ found → length (hit_rows found) ≤ length (found_rows m t x (Some s)) → RisesBy (scan_looks (code kind.Indexes ∷ []) c) a b → RisesBy (leaving_rules s d searched) b d
-        → RisesLeaving (texts_alone (length lent * length (read_texts list w.orders (all_conds w conds) columns))) left d e → RisesLeaving (leaving_rules s e (most_by effect)) left a e
+        → RisesLeaving (texts_alone (length lent * length (read_texts want.list (asked_by want w).orders (all_conds w conds) columns))) left d e → RisesLeaving (leaving_rules s e (most_by effect)) left a e
     rows_met effect lines columns w lent found left a b d e is same asks lent_is few first second third =
         let none = indexes_texts c in
         let rows = ap (λ (k : Counts). k.rows) looks_are in
         let rules = ap (λ (k : Counts). k.rules) looks_are in
-        let each : length (read_texts list w.orders (all_conds w conds) columns) ≡ row_texts list s conds x.columns = λ k. length (read_texts list (asks k).orders (all_conds (asks k) conds) (sym same k)) in
+        let each : length (read_texts want.list (asked_by want w).orders (all_conds w conds) columns) ≡ row_texts want s conds x.columns = λ k. length (read_texts want.list (asked_by want (asks k)).orders (all_conds (asks k) conds) (sym same k)) in
         let count : length lent ≡ length (hit_rows found) = ap length lent_is ∙ sym (length-map found (λ h. (h.key.0, h.score))) in
-        let all : length lent * length (read_texts list w.orders (all_conds w conds) columns) ≡ length (hit_rows found) * row_texts list s conds x.columns = λ k. count k * each k in
-        let fewer : length (hit_rows found) * row_texts list s conds x.columns ≤ length (found_rows m t x (Some s)) * row_texts list s conds x.columns = mul-le-mul_right (row_texts list s conds x.columns) few in
-        let texts : e.texts + left ≤ d.texts + length lent * length (read_texts list w.orders (all_conds w conds) columns) = third.texts in
+        let all : length lent * length (read_texts want.list (asked_by want w).orders (all_conds w conds) columns) ≡ length (hit_rows found) * row_texts want s conds x.columns = λ k. count k * each k in
+        let fewer : length (hit_rows found) * row_texts want s conds x.columns ≤ length (found_rows m t x (Some s)) * row_texts want s conds x.columns = mul-le-mul_right (row_texts want s conds x.columns) few in
+        let texts : e.texts + left ≤ d.texts + length lent * length (read_texts want.list (asked_by want w).orders (all_conds w conds) columns) = third.texts in
         let texts_behind = leaving_texts s searched b d second in
         let rows_behind = leaving_rows s searched b d second in
         let no_rows : e.rows ≤ d.rows + 0 = third.rows in
         let no_rules : e.rules ≤ d.rules + 0 = third.rules in
         subst (λ (f : Effect). RisesLeaving (leaving_rules s e (most_by f)) left a e) (sym is)
-        (leaving_whole s (found_looks c m t x list s conds) searched (scan_looks (code kind.Indexes ∷ []) c).rules left a b d e
+        (leaving_whole s (found_looks c m t x want s conds) searched (scan_looks (code kind.Indexes ∷ []) c).rules left a b d e
         (omega (arith, none, search_reads, all, fewer, first.texts, texts_behind, texts)) (omega (arith, rows, first.rows, rows_behind, no_rows)) first.rules second (omega (arith, no_rules)) (omega (arith, rules)))
 
 -- with a search, and without one
-pub unsought_few : (held : Option Held) → held ≡ None → (c : Content) (m : StoreState) (t : List ℕ) (x : Table) (list : SelectList) (conds : List Cond) (left : ℕ) (a b : Counts) → LooksFewLeaving c m t x list (sought held) conds left a b
-unsought_few held none c m t x list conds left a b = subst (λ (o : Option Held). LooksFewLeaving c m t x list (sought o) conds left a b) (sym none) tt
+pub unsought_few : (held : Option Held) → held ≡ None → (c : Content) (m : StoreState) (t : List ℕ) (x : Table) (want : Selection) (conds : List Cond) (left : ℕ) (a b : Counts) → LooksFewLeaving c m t x want (sought held) conds left a b
+unsought_few held none c m t x want conds left a b = subst (λ (o : Option Held). LooksFewLeaving c m t x want (sought o) conds left a b) (sym none) tt
 
-pub sought_few : (held : Option Held) (search : Held) → held ≡ Some search → (c : Content) (m : StoreState) (t : List ℕ) (x : Table) (list : SelectList) (conds : List Cond) (left : ℕ) (a b : Counts)
-    → LooksFewLeaving c m t x list (Some (held_search search)) conds left a b → LooksFewLeaving c m t x list (sought held) conds left a b
-sought_few held search some c m t x list conds left a b few = subst (λ (o : Option Held). LooksFewLeaving c m t x list (sought o) conds left a b) (sym some) few
+pub sought_few : (held : Option Held) (search : Held) → held ≡ Some search → (c : Content) (m : StoreState) (t : List ℕ) (x : Table) (want : Selection) (conds : List Cond) (left : ℕ) (a b : Counts)
+    → LooksFewLeaving c m t x want (Some (held_search search)) conds left a b → LooksFewLeaving c m t x want (sought held) conds left a b
+sought_few held search some c m t x want conds left a b few = subst (λ (o : Option Held). LooksFewLeaving c m t x want (sought o) conds left a b) (sym some) few
 
 -- ---- the lines
 
 -- what is left is read for them
-pub lines_few : (c : Content) (m : StoreState) (t : List ℕ) (x : Table) (list : SelectList) (search : Option Search) (conds : List Cond) (left : ℕ) (a b d : Counts)
-    → LooksFewLeaving c m t x list search conds left a b → RisesBy (texts_alone left) b d → LooksFewLeaving c m t x list search conds 0 a d
-lines_few c m t x list None conds left a b d few rises = tt
-lines_few c m t x list (Some s) conds left a b d few rises = leaving_on s (most_by c m t x list s conds (select_rows m t x list (Some s) conds)) left a b d few rises
+pub lines_few : (c : Content) (m : StoreState) (t : List ℕ) (x : Table) (want : Selection) (search : Option Search) (conds : List Cond) (left : ℕ) (a b d : Counts)
+    → LooksFewLeaving c m t x want search conds left a b → RisesBy (texts_alone left) b d → LooksFewLeaving c m t x want search conds 0 a d
+lines_few c m t x want None conds left a b d few rises = tt
+lines_few c m t x want (Some s) conds left a b d few rises = leaving_on s (most_by c m t x want s conds (select_rows m t x want (Some s) conds)) left a b d few rises
 
 -- ---- the whole
 
 -- nothing was looked up
-pub still_few : (effect : Effect) (c : Content) (m : StoreState) (list : SelectList) (t : List ℕ) (preds : List Pred) (search : Option Search) (a b : Counts) → RisesBy no_looks a b → LooksFew effect c m list t preds search a b
-still_few effect c m list t preds None a b none = tt
-still_few effect c m list t preds (Some s) a b none = rises_weaker _ a b none
+pub still_few : (effect : Effect) (c : Content) (m : StoreState) (want : Selection) (t : List ℕ) (preds : List Pred) (search : Option Search) (a b : Counts) → RisesBy no_looks a b → LooksFew effect c m want t preds search a b
+still_few effect c m want t preds None a b none = tt
+still_few effect c m want t preds (Some s) a b none = rises_weaker _ a b none
 
 -- where something is searched for, there is a predicate
-searches : (preds : List Pred) (s : Search) → search_in preds ≡ Some s → is_bare preds ≡ false
-searches [] s is = absurd (cc)
-searches (pred ∷ preds) s is = refl
+searches : (preds : List Pred) (orders : List OrderItem) (s : Search) → search_in preds ≡ Some s → is_bare preds orders ≡ false
+searches [] orders s is = absurd (cc)
+searches (pred ∷ preds) orders s is = refl
 
-pub bare_few : (effect : Effect) (c : Content) (m : StoreState) (list : SelectList) (t : List ℕ) (preds : List Pred) (a b : Counts) → (is_bare preds ≡ false → RisesBy no_looks a b) → LooksFew effect c m list t preds (search_in preds) a b
-bare_few effect c m list t preds a b none = go (search_in preds) refl
+pub bare_few : (effect : Effect) (c : Content) (m : StoreState) (want : Selection) (t : List ℕ) (preds : List Pred) (a b : Counts) → (is_bare preds want.orders ≡ false → RisesBy no_looks a b) → LooksFew effect c m want t preds (search_in preds) a b
+bare_few effect c m want t preds a b none = go (search_in preds) refl
   where
-    go : (search : Option Search) → search_in preds ≡ search → LooksFew effect c m list t preds search a b
+    go : (search : Option Search) → search_in preds ≡ search → LooksFew effect c m want t preds search a b
     go None is = tt
-    go (Some s) is = rises_weaker _ a b (none (searches preds s is))
+    go (Some s) is = rises_weaker _ a b (none (searches preds want.orders s is))
 
 -- as of the table
-pub table_few : (effect : Effect) (c : Content) (m : StoreState) (list : SelectList) (t : List ℕ) (preds : List Pred) (x : Table) (search : Option Search) (conds : List Cond) (a b d : Counts)
-    → get m.tables t ≡ Some x → conds ≡ conds_in preds → effect ≡ select_rows m t x list search conds
-    → RisesBy no_looks a b → LooksFewLeaving c m t x list search conds 0 b d → LooksFew effect c m list t preds search a d
-table_few effect c m list t preds x None conds a b d there conditions is none few = tt
-table_few effect c m list t preds x (Some s) conds a b d there conditions is none few =
-    rises_as _ (leaving_rules s d (most_by c m t x list s conds (select_rows m t x list (Some s) conds))) a d
-    (λ i. leaving_rules s d (looks_by (is i) (index_looks c) (table_looks c m t (there i) list s (sym conditions i))))
+pub table_few : (effect : Effect) (c : Content) (m : StoreState) (want : Selection) (t : List ℕ) (preds : List Pred) (x : Table) (search : Option Search) (conds : List Cond) (a b d : Counts)
+    → get m.tables t ≡ Some x → conds ≡ conds_in preds → effect ≡ select_rows m t x want search conds
+    → RisesBy no_looks a b → LooksFewLeaving c m t x want search conds 0 b d → LooksFew effect c m want t preds search a d
+table_few effect c m want t preds x None conds a b d there conditions is none few = tt
+table_few effect c m want t preds x (Some s) conds a b d there conditions is none few =
+    rises_as _ (leaving_rules s d (most_by c m t x want s conds (select_rows m t x want (Some s) conds))) a d
+    (λ i. leaving_rules s d (looks_by (is i) (index_looks c) (table_looks c m t (there i) want s (sym conditions i))))
     (rises_behind _ a b d none (rises_end _ 0 b d few))

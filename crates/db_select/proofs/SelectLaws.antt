@@ -1,12 +1,11 @@
 -- The ways out of a SELECT, and its lines.
-use Rattle.std.proofs.Common.{◌≡◌, ◌≤◌, ℕ, Bool, true, false, List, [], ◌∷◌, ◌++◌, length, map, Option, Some, None, Vec, refl, sym, ap, ◌∙◌, arith}
-use Rattle.std.specs.Prelude.{not, ◌||◌, is_none}
+use Rattle.std.proofs.Common.{◌≡◌, ◌≤◌, ℕ, Bool, true, false, List, [], ◌∷◌, length, map, Option, Some, None, Vec, refl, sym, ap, ◌∙◌, arith}
+use Rattle.std.specs.Prelude.{◌||◌, is_none}
 use Rattle.std.specs.FinMap.{get}
 use Rattle.std.specs.declared.alloc.Global.{Global}
 use Rattle.st_parse.specs.declared.statements.Item.{Item}
 use Rattle.st_parse.specs.declared.statements.Item.TheVariants.{Column as ColumnItem}
 use Rattle.st_parse.specs.declared.statements.Pred.{Pred}
-use Rattle.st_parse.specs.declared.statements.SelectList.{SelectList}
 use Rattle.tb_table.specs.declared.columns.Column.{Column}
 use Rattle.tb_table.specs.Tables.{Table}
 use Rattle.tb_table.specs.Rules.{AreTables}
@@ -18,7 +17,7 @@ use Rattle.db_cond.specs.Faults.{Refusal, UnknownName, NoIndexOfKind, refusal_li
 use Rattle.db_state.specs.States.{StoreState}
 use Rattle.db_state.specs.Effects.{Effect, Does, Refused, refuse, refuse_by, with_found, reply_by}
 use Rattle.db_state.specs.Columns.{first_unknown}
-use Rattle.db_rows.specs.Checking.{fit_columns, has_beyond}
+use Rattle.db_rows.specs.Checking.{has_beyond}
 use Rattle.db_select.specs.declared.finds.FoundRow.{FoundRow}
 use Rattle.db_select.specs.declared.finds.Selected.{Selected}
 use Rattle.db_select.specs.declared.finds.Selected.TheVariants.{Refused as RefusedFound, Rows}
@@ -26,13 +25,14 @@ use Rattle.db_find.specs.Searches.{Search, search_in}
 use Rattle.db_find.specs.Seeking.{index_of_search}
 use Rattle.db_find.specs.Finding.{refused_by, search_refusal}
 use Rattle.db_select.specs.declared.sources.FieldSource.{FieldSource}
-use Rattle.db_select.specs.Predicates.{label_in, list_columns, pred_column, conds_in}
-use Rattle.db_select.specs.Checking.{fit_labels, is_out_of_range, check_parts, check_values}
+use Rattle.db_select.specs.Predicates.{conds_in, label_in, named_columns}
+use Rattle.db_select.specs.Checking.{check_parts, check_values, has_wrong_values, is_out_of_range}
 use Rattle.db_select.specs.Fields.{hit_fields}
 use Rattle.db_select.specs.Hits.{hits, hits_of}
 use Rattle.db_select.specs.Listing.{all_columns, found_reply, hit_line, rows_reply}
 use Rattle.db_select.specs.Selecting.{Selects, lacks_index, query_refusal, select, select_rows}
 use Rattle.db_select.specs.Sources.{column_source, field_source}
+use Rattle.db_select.specs.Choosing.{Selection}
 use Rattle.db_select.proofs.FieldLaws.{hit_line_is}
 
 -- ---- the table
@@ -65,40 +65,40 @@ columns_are columns sources x same is =
 
 -- ---- the replies
 
-module _ (m : StoreState) (t : List ℕ) (x : Table) (list : SelectList) (search : Option Search) (conds : List Cond) (columns : List Column) (same : x.columns ≡ columns) (w o : Bool)
-    (wrong : w ≡ (not (fit_labels list (label_in search)) || not (fit_columns columns conds))) (out : o ≡ (is_out_of_range search || has_beyond conds)) where
-  checked : (done : Effect) → check_values x.columns list search conds done ≡ check_parts w o done
+module _ (m : StoreState) (t : List ℕ) (x : Table) (want : Selection) (search : Option Search) (conds : List Cond) (columns : List Column) (same : x.columns ≡ columns) (w o : Bool)
+    (wrong : w ≡ has_wrong_values columns want (label_in search) conds) (out : o ≡ (is_out_of_range search || has_beyond conds)) where
+  checked : (done : Effect) → check_values x.columns want search conds done ≡ check_parts w o done
   checked done =
-      sym (λ i. check_parts ((wrong ∙ ap (λ (cs : List Column). not (fit_labels list (label_in search)) || not (fit_columns cs conds)) (sym same)) i) (out i) done)
+      sym (λ i. check_parts ((wrong ∙ ap (λ (cs : List Column). has_wrong_values cs want (label_in search) conds) (sym same)) i) (out i) done)
 
   -- what follows the checks
   abbrev pub listed : Effect
-  listed = Does m (rows_reply m.tables t x.columns list (hits m t x search conds))
+  listed = Does m (rows_reply m.tables t x.columns want.list (hits m t x want search conds))
 
   abbrev queried : Effect
   queried = refuse_by (query_refusal m t x.columns search) (λ refusal. refusal) listed
 
-  behind_index : lacks_index m t x.columns search ≡ false → select_rows m t x list search conds ≡ check_parts w o queried
-  behind_index there = ap (λ (b : Bool). refuse b NoIndexOfKind (check_values x.columns list search conds queried)) there ∙ checked queried
+  behind_index : lacks_index m t x.columns search ≡ false → select_rows m t x want search conds ≡ check_parts w o queried
+  behind_index there = ap (λ (b : Bool). refuse b NoIndexOfKind (check_values x.columns want search conds queried)) there ∙ checked queried
 
   pub faulty : lacks_index m t x.columns search ≡ false → (refusal : Refusal) → ((done : Effect) → check_parts w o done ≡ Refused refusal) → (line : Vec ℕ Global) → line.items ≡ refusal_line refusal
-      → Selects m t x list search conds (RefusedFound line)
+      → Selects m t x want search conds (RefusedFound line)
   faulty there refusal fails line says = (refusal, (behind_index there ∙ fails queried, says))
 
   -- behind the checks, where the query text is refused or isn't
   pub by_query : lacks_index m t x.columns search ≡ false → ((done : Effect) → check_parts w o done ≡ done) → (refused : Option Refusal) → query_refusal m t x.columns search ≡ refused
-      → select_rows m t x list search conds ≡ refuse_by refused (λ refusal. refusal) listed
+      → select_rows m t x want search conds ≡ refuse_by refused (λ refusal. refusal) listed
   by_query there passes refused is = behind_index there ∙ passes queried ∙ ap (λ (o : Option Refusal). refuse_by o (λ refusal. refusal) listed) is
 
-  pub passed : lacks_index m t x.columns search ≡ false → ((done : Effect) → check_parts w o done ≡ done) → query_refusal m t x.columns search ≡ None → (found : Vec FoundRow Global) → hit_rows (hits_of found.items) ≡ hits m t x search conds
-      → Selects m t x list search conds (Rows found)
+  pub passed : lacks_index m t x.columns search ≡ false → ((done : Effect) → check_parts w o done ≡ done) → query_refusal m t x.columns search ≡ None → (found : Vec FoundRow Global) → hit_rows (hits_of found.items) ≡ hits m t x want search conds
+      → Selects m t x want search conds (Rows found)
   passed there passes none found are = (by_query there passes None none, are)
 
 -- where it lacks its index
-pub unindexed : (m : StoreState) (t : List ℕ) (x : Table) (list : SelectList) (search : Option Search) (conds : List Cond) → lacks_index m t x.columns search ≡ true → (line : Vec ℕ Global) → line.items ≡ refusal_line NoIndexOfKind
-    → Selects m t x list search conds (RefusedFound line)
-unindexed m t x list search conds lacks line says =
-    let rest = check_values x.columns list search conds (refuse_by (query_refusal m t x.columns search) (λ refusal. refusal) (Does m (rows_reply m.tables t x.columns list (hits m t x search conds)))) in
+pub unindexed : (m : StoreState) (t : List ℕ) (x : Table) (want : Selection) (search : Option Search) (conds : List Cond) → lacks_index m t x.columns search ≡ true → (line : Vec ℕ Global) → line.items ≡ refusal_line NoIndexOfKind
+    → Selects m t x want search conds (RefusedFound line)
+unindexed m t x want search conds lacks line says =
+    let rest = check_values x.columns want search conds (refuse_by (query_refusal m t x.columns search) (λ refusal. refusal) (Does m (rows_reply m.tables t x.columns want.list (hits m t x want search conds)))) in
     (NoIndexOfKind, (ap (λ (b : Bool). refuse b NoIndexOfKind rest) lacks, says))
 
 pub has_needed : (m : StoreState) (t : List ℕ) (x : Table) (s : Search) (y : Index) → index_of_search m t x.columns s ≡ Some y → lacks_index m t x.columns (Some s) ≡ false
@@ -115,29 +115,29 @@ module _ (m : StoreState) (t : List ℕ) (x : Table) (s : Search) (y : Index) (n
 
 -- ---- what was found, and the reply to it
 
-pub selects_reply : (m : StoreState) (t : List ℕ) (x : Table) (list : SelectList) (search : Option Search) (conds : List Cond) (found : Selected) → Selects m t x list search conds found
-    → found_reply m.tables t x.columns list found ≡ reply_by (select_rows m t x list search conds)
-selects_reply m t x list search conds (RefusedFound line) is = is.1.1 ∙ sym (ap reply_by is.1.0)
-selects_reply m t x list search conds (Rows found) is = ap (rows_reply m.tables t x.columns list) is.1 ∙ sym (ap reply_by is.0)
+pub selects_reply : (m : StoreState) (t : List ℕ) (x : Table) (want : Selection) (search : Option Search) (conds : List Cond) (found : Selected) → Selects m t x want search conds found
+    → found_reply m.tables t x.columns want.list found ≡ reply_by (select_rows m t x want search conds)
+selects_reply m t x want search conds (RefusedFound line) is = is.1.1 ∙ sym (ap reply_by is.1.0)
+selects_reply m t x want search conds (Rows found) is = ap (rows_reply m.tables t x.columns want.list) is.1 ∙ sym (ap reply_by is.0)
 
 -- ---- the whole of a table
 
-module _ (m : StoreState) (list : SelectList) (t : List ℕ) (preds : List Pred) (x : Table) (there : get m.tables t ≡ Some x) (columns : List Column) (same : x.columns ≡ columns) where
-  pub known : first_unknown (list_columns list ++ map pred_column preds) columns ≡ None → select m list t preds ≡ select_rows m t x list (search_in preds) (conds_in preds)
+module _ (m : StoreState) (want : Selection) (t : List ℕ) (preds : List Pred) (x : Table) (there : get m.tables t ≡ Some x) (columns : List Column) (same : x.columns ≡ columns) where
+  pub known : first_unknown (named_columns want preds) columns ≡ None → select m want t preds ≡ select_rows m t x want (search_in preds) (conds_in preds)
   known none =
-      ap (λ (o : Option Table). with_found o (UnknownName t) (λ (x : Table). refuse_by (first_unknown (list_columns list ++ map pred_column preds) x.columns) UnknownName (select_rows m t x list (search_in preds) (conds_in preds)))) there
-      ∙ ap (λ (o : Option (List ℕ)). refuse_by o UnknownName (select_rows m t x list (search_in preds) (conds_in preds))) (ap (first_unknown (list_columns list ++ map pred_column preds)) same ∙ none)
+      ap (λ (o : Option Table). with_found o (UnknownName t) (λ (x : Table). refuse_by (first_unknown (named_columns want preds) x.columns) UnknownName (select_rows m t x want (search_in preds) (conds_in preds)))) there
+      ∙ ap (λ (o : Option (List ℕ)). refuse_by o UnknownName (select_rows m t x want (search_in preds) (conds_in preds))) (ap (first_unknown (named_columns want preds)) same ∙ none)
 
-  -- a name of the list or of the predicates that the table hasn't
-  pub unknown : (name : List ℕ) → first_unknown (list_columns list ++ map pred_column preds) columns ≡ Some name → (line : List ℕ) → line ≡ refusal_line (UnknownName name) → line ≡ reply_by (select m list t preds)
+  -- a name of the list, of the predicates or of the order that the table hasn't
+  pub unknown : (name : List ℕ) → first_unknown (named_columns want preds) columns ≡ Some name → (line : List ℕ) → line ≡ refusal_line (UnknownName name) → line ≡ reply_by (select m want t preds)
   unknown name some line is =
       is ∙ sym (ap reply_by (
-      ap (λ (o : Option Table). with_found o (UnknownName t) (λ (x : Table). refuse_by (first_unknown (list_columns list ++ map pred_column preds) x.columns) UnknownName (select_rows m t x list (search_in preds) (conds_in preds)))) there
-      ∙ ap (λ (o : Option (List ℕ)). refuse_by o UnknownName (select_rows m t x list (search_in preds) (conds_in preds))) (ap (first_unknown (list_columns list ++ map pred_column preds)) same ∙ some)))
+      ap (λ (o : Option Table). with_found o (UnknownName t) (λ (x : Table). refuse_by (first_unknown (named_columns want preds) x.columns) UnknownName (select_rows m t x want (search_in preds) (conds_in preds)))) there
+      ∙ ap (λ (o : Option (List ℕ)). refuse_by o UnknownName (select_rows m t x want (search_in preds) (conds_in preds))) (ap (first_unknown (named_columns want preds)) same ∙ some)))
 
-  pub table_reply : first_unknown (list_columns list ++ map pred_column preds) columns ≡ None → (search : Option Search) (conds : List Cond) → search ≡ search_in preds → conds ≡ conds_in preds
-      → reply_by (select_rows m t x list search conds) ≡ reply_by (select m list t preds)
+  pub table_reply : first_unknown (named_columns want preds) columns ≡ None → (search : Option Search) (conds : List Cond) → search ≡ search_in preds → conds ≡ conds_in preds
+      → reply_by (select_rows m t x want search conds) ≡ reply_by (select m want t preds)
   table_reply none search conds searched conditions =
-      ap (λ (s : Option Search). reply_by (select_rows m t x list s conds)) searched
-      ∙ ap (λ (cs : List Cond). reply_by (select_rows m t x list (search_in preds) cs)) conditions
+      ap (λ (s : Option Search). reply_by (select_rows m t x want s conds)) searched
+      ∙ ap (λ (cs : List Cond). reply_by (select_rows m t x want (search_in preds) cs)) conditions
       ∙ ap reply_by (sym (known none))

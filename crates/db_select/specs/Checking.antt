@@ -1,11 +1,12 @@
 -- The checks of a SELECT, behind those of its names and its index.
-use Rattle.std.specs.Prelude.{ℕ, ℤ, pos, Bool, true, false, not, ◌||◌, List, [], ◌∷◌, Option, Some, None, codes, ◌≡◌, refl}
+use Rattle.std.specs.Prelude.{ℕ, ℤ, pos, Bool, true, false, not, ◌||◌, ◌&&◌, List, [], ◌∷◌, Option, Some, None, codes, ◌≡◌, refl}
 use Rattle.std.specs.List.{list_all}
 use Rattle.std.specs.Ordering.{int_eq}
 use Rattle.st_parse.specs.declared.statements.Cond.{Cond}
 use Rattle.st_parse.specs.declared.statements.Item.{Item}
 use Rattle.st_parse.specs.declared.statements.Item.TheVariants.{Column as ColumnItem, Score}
 use Rattle.st_parse.specs.declared.statements.Operand.TheVariants.{Text, Number}
+use Rattle.st_parse.specs.declared.statements.OrderItem.{OrderItem}
 use Rattle.st_parse.specs.declared.statements.Compare.TheVariants.{Equal}
 use Rattle.st_parse.specs.declared.statements.Cond.TheVariants.{Compare}
 use Rattle.st_parse.specs.declared.statements.SelectList.{SelectList}
@@ -16,9 +17,11 @@ use Rattle.tb_table.specs.declared.columns.Column.{Column}
 use Rattle.tb_table.specs.Tables.{docs_columns}
 use Rattle.db_cond.specs.Faults.{WrongValues, OutOfRange}
 use Rattle.db_state.specs.Effects.{Effect, Refused, refuse}
-use Rattle.db_rows.specs.Checking.{fit_columns, has_beyond}
+use Rattle.db_rows.specs.Checking.{fit_columns, fit_sort, has_beyond, sort_of}
 use Rattle.db_find.specs.Searches.{Search, Contains, has_number_out_of_range}
+use Rattle.db_select.specs.Ordering.{down_by}
 use Rattle.db_select.specs.Predicates.{label_in, below_seven}
+use Rattle.db_select.specs.Choosing.{Selection, selection}
 
 -- ---- labels
 
@@ -45,6 +48,20 @@ fit_labels Star label = true
 fit_labels CountAll label = true
 fit_labels (Items items) label = list_all (is_labelled label) items
 
+-- ---- the order
+
+-- Rows are ordered by numbers and short texts, and by no CLOB.
+abbrev pub is_sortable : List Column → Item → Bool
+is_sortable columns (ColumnItem name) = fit_sort [] (sort_of name columns)
+is_sortable columns (Score label) = true
+
+-- by such columns, and by the score with the label
+abbrev pub fits_order : List Column → Option Whole → OrderItem → Bool
+fits_order columns label o = is_labelled label o.item && is_sortable columns o.item
+
+abbrev pub fit_orders : List Column → Option Whole → List OrderItem → Bool
+fit_orders columns label orders = list_all (fits_order columns label) orders
+
 -- ---- the numbers of a search
 
 abbrev pub is_out_of_range : Option Search → Bool
@@ -57,10 +74,13 @@ is_out_of_range (Some s) = has_number_out_of_range s
 abbrev pub check_parts : Bool → Bool → Effect → Effect
 check_parts wrong_values out_of_range done = refuse wrong_values WrongValues (refuse out_of_range OutOfRange done)
 
-abbrev pub check_values : List Column → SelectList → Option Search → List Cond → Effect → Effect
-check_values columns list search conds done =
+abbrev pub has_wrong_values : List Column → Selection → Option Whole → List Cond → Bool
+has_wrong_values columns want label conds = (not (fit_labels want.list label) || not (fit_orders columns label want.orders)) || not (fit_columns columns conds)
+
+abbrev pub check_values : List Column → Selection → Option Search → List Cond → Effect → Effect
+check_values columns want search conds done =
     check_parts
-    (not (fit_labels list (label_in search)) || not (fit_columns columns conds))
+    (has_wrong_values columns want (label_in search) conds)
     (is_out_of_range search || has_beyond conds)
     done
 
@@ -68,8 +88,8 @@ check_values columns list search conds done =
 abbrev its_search : List ℕ → Option Whole → ℤ → Option Search
 its_search query label above = Some (Contains (codes "body") query label (Fits above))
 
-abbrev score_one : SelectList
-score_one = Items (ColumnItem (codes "id") ∷ Score (Fits (pos 1)) ∷ [])
+abbrev score_one : Selection
+score_one = selection (Items (ColumnItem (codes "id") ∷ Score (Fits (pos 1)) ∷ [])) []
 
 abbrev body_is_fox : Cond
 body_is_fox = Compare (codes "body") Equal (Text (codes "fox"))
@@ -89,21 +109,45 @@ no_search_has_a_score : (done : Effect) → check_values docs_columns score_one 
 no_search_has_a_score done = refl
 
 -- a condition on the CLOB body, beside a threshold over 100
-condition_and_threshold : (done : Effect) → check_values docs_columns Star (its_search (codes "quick") None (pos 101)) (body_is_fox ∷ []) done ≡ Refused WrongValues
+condition_and_threshold : (done : Effect) → check_values docs_columns (selection Star []) (its_search (codes "quick") None (pos 101)) (body_is_fox ∷ []) done ≡ Refused WrongValues
 condition_and_threshold done = refl
 
-threshold_alone : (done : Effect) → check_values docs_columns CountAll (its_search [] None (pos 101)) [] done ≡ Refused OutOfRange
+threshold_alone : (done : Effect) → check_values docs_columns (selection CountAll []) (its_search [] None (pos 101)) [] done ≡ Refused OutOfRange
 threshold_alone done = refl
 
 -- a number outside 64 bits in a condition
-condition_beyond : (done : Effect) → check_values docs_columns Star (its_search (codes "a b") None (pos 0)) (price_is_beyond ∷ []) done ≡ Refused OutOfRange
+condition_beyond : (done : Effect) → check_values docs_columns (selection Star []) (its_search (codes "a b") None (pos 0)) (price_is_beyond ∷ []) done ≡ Refused OutOfRange
 condition_beyond done = refl
 
-label_beyond : (done : Effect) → check_values docs_columns (Items (Score Beyond ∷ [])) (its_search (codes "quick") (Some Beyond) (pos 0)) [] done ≡ Refused OutOfRange
+label_beyond : (done : Effect) → check_values docs_columns (selection (Items (Score Beyond ∷ [])) []) (its_search (codes "quick") (Some Beyond) (pos 0)) [] done ≡ Refused OutOfRange
 label_beyond done = refl
 
 a_good_search : (done : Effect) → check_values docs_columns score_one (its_search (codes "quick") (Some (Fits (pos 1))) (pos 0)) (below_seven (codes "id") ∷ []) done ≡ done
 a_good_search done = refl
 
-conditions_alone : (done : Effect) → check_values docs_columns Star None (below_seven (codes "id") ∷ []) done ≡ done
+conditions_alone : (done : Effect) → check_values docs_columns (selection Star []) None (below_seven (codes "id") ∷ []) done ≡ done
 conditions_alone done = refl
+
+-- ORDER BY body DESC, which is a CLOB; and ORDER BY price DESC, of COUNT(*) too
+by_a_clob : (done : Effect) → check_values docs_columns (selection CountAll (down_by (codes "body") ∷ [])) None [] done ≡ Refused WrongValues
+by_a_clob done = refl
+
+by_a_number : (done : Effect) → check_values docs_columns (selection Star (down_by (codes "price") ∷ [])) None [] done ≡ done
+by_a_number done = refl
+
+-- ORDER BY SCORE(1) without a CONTAINS, beside one with another label, and beside its own
+abbrev up_by_score : Whole → OrderItem
+up_by_score label = record { item = Score label; down = false }
+
+by_no_score : (done : Effect) → check_values docs_columns (selection Star (up_by_score (Fits (pos 1)) ∷ [])) None [] done ≡ Refused WrongValues
+by_no_score done = refl
+
+by_another_score : (done : Effect) → check_values docs_columns (selection Star (up_by_score (Fits (pos 1)) ∷ [])) (its_search [] (Some (Fits (pos 2))) (pos 0)) [] done ≡ Refused WrongValues
+by_another_score done = refl
+
+by_its_score : (done : Effect) → check_values docs_columns (selection Star (up_by_score (Fits (pos 1)) ∷ [])) (its_search (codes "quick") (Some (Fits (pos 1))) (pos 0)) [] done ≡ done
+by_its_score done = refl
+
+-- numbers outside 64 bits as labels
+by_a_score_beyond : (done : Effect) → check_values docs_columns (selection Star (up_by_score Beyond ∷ [])) (its_search (codes "quick") (Some Beyond) (pos 0)) [] done ≡ Refused OutOfRange
+by_a_score_beyond done = refl

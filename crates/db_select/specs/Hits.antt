@@ -27,6 +27,7 @@ use Rattle.db_find.specs.Seeking.{index_of_search}
 use Rattle.db_find.specs.Finding.{found_in}
 use Rattle.db_select.specs.declared.finds.FoundRow.{FoundRow}
 use Rattle.db_select.specs.Ordering.{in_order}
+use Rattle.db_select.specs.Choosing.{Selection, asked_by}
 
 -- The keys of rows with their scores, in the order of the keys: of those that the search finds, or without one of all, with
 -- the score 0, for which no SCORE asks.
@@ -48,8 +49,12 @@ abbrev pub asked_rows : Table → Where → List Cond → List (ℤ × ℕ) → 
 asked_rows x asked conds found = in_order x asked.orders (filter (λ h. key_meets x (all_conds asked conds) h.0) found)
 
 -- THE ROWS THAT A SELECT GIVES
-abbrev pub hits : StoreState → List ℕ → Table → Option Search → List Cond → List (ℤ × ℕ)
-hits m t x search conds = asked_rows x (asked_of_rows search) conds (found_rows m t x search)
+abbrev pub hits : StoreState → List ℕ → Table → Selection → Option Search → List Cond → List (ℤ × ℕ)
+hits m t x want search conds = asked_rows x (asked_by want (asked_of_rows search)) conds (found_rows m t x search)
+
+-- those that meet conditions, in order of their keys, where nothing is searched
+abbrev pub unsearched_rows : StoreState → List ℕ → Table → List Cond → List (ℤ × ℕ)
+unsearched_rows m t x conds = filter (λ h. key_meets x conds h.0) (found_rows m t x None)
 
 -- ---- as code holds them
 

@@ -1,4 +1,5 @@
 pub mod Checking
+pub mod Choosing
 pub mod Fields
 pub mod Giving
 pub mod Ordering

@@ -47,6 +47,7 @@ use Rattle.db_select.specs.Predicates.{below_seven, conds_in}
 use Rattle.db_select.specs.Selecting.{select_rows, selected_left}
 use Rattle.db_select.specs.Statements.{select_statement}
 use Rattle.db_select.specs.declared.finds.Selected.{Selected}
+use Rattle.db_select.specs.Choosing.{Selection, asked_by, selection}
 
 -- ---- the texts of a row
 
@@ -83,13 +84,13 @@ abbrev pub read_texts : SelectList → List OrderItem → List Cond → List Col
 read_texts list orders conds columns = passing_text_places (reads list orders conds) columns
 
 -- how many texts of columns a SELECT with a search reads of each row that this finds: its own conditions and its order count
-abbrev pub row_texts : SelectList → Search → List Cond → List Column → ℕ
-row_texts list s conds columns = length (read_texts list (asked_where s).orders (all_conds (asked_where s) conds) columns)
+abbrev pub row_texts : Selection → Search → List Cond → List Column → ℕ
+row_texts want s conds columns = length (read_texts want.list (asked_by want (asked_where s)).orders (all_conds (asked_where s) conds) columns)
 
 -- HOW MANY TEXTS A SELECT WITH A SEARCH READS at most: those that the search reads to find rows, and of each row that it finds, before the conditions, the text
 -- of each column of texts that the list, a condition or the order names
-abbrev pub select_texts : StoreState → List ℕ → Table → SelectList → Search → List Cond → ℕ
-select_texts m t x list s conds = texts_in_index m.tables (named_index m t x.columns s) s + length (found_rows m t x (Some s)) * row_texts list s conds x.columns
+abbrev pub select_texts : StoreState → List ℕ → Table → Selection → Search → List Cond → ℕ
+select_texts m t x want s conds = texts_in_index m.tables (named_index m t x.columns s) s + length (found_rows m t x (Some s)) * row_texts want s conds x.columns
 
 -- ---- what a SELECT with a search looks up at most
 
@@ -98,13 +99,13 @@ abbrev pub index_looks : Content → Counts
 index_looks c = record (scan_looks (code kind.Indexes ∷ []) c) { texts = 0 }
 
 -- where it isn't refused: so many texts for each row that the search finds, and the rows of postings that the search looks at
-abbrev pub found_looks : Content → StoreState → List ℕ → Table → SelectList → Search → List Cond → Counts
-found_looks c m t x list s conds =
-    record (plus (index_looks c) (looks_in c m.tables m.thesauri (named_index m t x.columns s) s)) { texts = select_texts m t x list s conds }
+abbrev pub found_looks : Content → StoreState → List ℕ → Table → Selection → Search → List Cond → Counts
+found_looks c m t x want s conds =
+    record (plus (index_looks c) (looks_in c m.tables m.thesauri (named_index m t x.columns s) s)) { texts = select_texts m t x want s conds }
 
-abbrev pub table_looks : Content → StoreState → List ℕ → Option Table → SelectList → Search → List Cond → Counts
-table_looks c m t None list s conds = no_looks
-table_looks c m t (Some x) list s conds = found_looks c m t x list s conds
+abbrev pub table_looks : Content → StoreState → List ℕ → Option Table → Selection → Search → List Cond → Counts
+table_looks c m t None want s conds = no_looks
+table_looks c m t (Some x) want s conds = found_looks c m t x want s conds
 
 -- where it is refused, the search for the index alone
 abbrev pub looks_by : Effect → Counts → Counts → Counts
@@ -112,30 +113,30 @@ looks_by (Refused refusal) least most = least
 looks_by (Does m reply) least most = most
 
 -- WHAT A SELECT WITH A SEARCH LOOKS UP AT MOST, where this is what it does
-abbrev pub select_looks : Effect → Content → StoreState → SelectList → List ℕ → List Pred → Search → Counts
-select_looks effect c m list t preds s = looks_by effect (index_looks c) (table_looks c m t (get m.tables t) list s (conds_in preds))
+abbrev pub select_looks : Effect → Content → StoreState → Selection → List ℕ → List Pred → Search → Counts
+select_looks effect c m want t preds s = looks_by effect (index_looks c) (table_looks c m t (get m.tables t) want s (conds_in preds))
 
 -- It looked up no more than that, if it has a search; else nothing is said.
-abbrev pub LooksFew : Effect → Content → StoreState → SelectList → List ℕ → List Pred → Option Search → Counts → Counts → Type 0
-LooksFew effect c m list t preds None old new = Unit {0}
-LooksFew effect c m list t preds (Some s) old new = RisesBy (leaving_rules s new (select_looks effect c m list t preds s)) old new
+abbrev pub LooksFew : Effect → Content → StoreState → Selection → List ℕ → List Pred → Option Search → Counts → Counts → Type 0
+LooksFew effect c m want t preds None old new = Unit {0}
+LooksFew effect c m want t preds (Some s) old new = RisesBy (leaving_rules s new (select_looks effect c m want t preds s)) old new
 
 -- The same of a table with these columns, while so many of the texts are left.
-abbrev pub LooksFewLeaving : Content → StoreState → List ℕ → Table → SelectList → Option Search → List Cond → ℕ → Counts → Counts → Type 0
-LooksFewLeaving c m t x list None conds left old new = Unit {0}
-LooksFewLeaving c m t x list (Some s) conds left old new =
-    RisesLeaving (leaving_rules s new (looks_by (select_rows m t x list (Some s) conds) (index_looks c) (found_looks c m t x list s conds))) left old new
+abbrev pub LooksFewLeaving : Content → StoreState → List ℕ → Table → Selection → Option Search → List Cond → ℕ → Counts → Counts → Type 0
+LooksFewLeaving c m t x want None conds left old new = Unit {0}
+LooksFewLeaving c m t x want (Some s) conds left old new =
+    RisesLeaving (leaving_rules s new (looks_by (select_rows m t x want (Some s) conds) (index_looks c) (found_looks c m t x want s conds))) left old new
 
 -- ---- what calls promise, over each state that the content stands for
 
 -- over the table of this name, where these are its columns
-abbrev pub LooksFewOver : {K : Type 0} → (K → KeeperView) → K → K → List ℕ → List Column → SelectList → Option Search → List Cond → ℕ → Type 0
-LooksFewOver view old new t columns list search conds left =
-    OverNamedTable view old t (λ m c x. x.columns ≡ columns → LooksFewLeaving c m t x list search conds left (view old).counts (view new).counts)
+abbrev pub LooksFewOver : {K : Type 0} → (K → KeeperView) → K → K → List ℕ → List Column → Selection → Option Search → List Cond → ℕ → Type 0
+LooksFewOver view old new t columns want search conds left =
+    OverNamedTable view old t (λ m c x. x.columns ≡ columns → LooksFewLeaving c m t x want search conds left (view old).counts (view new).counts)
 
 -- while the texts that are left of the rows that it found are still to be shown
-abbrev pub FindsFew : {K : Type 0} → (K → KeeperView) → K → K → List ℕ → List Column → SelectList → Option Search → List Cond → Result Selected KeepFault → Type 0
-FindsFew view old new t columns list search conds result = LooksFewOver view old new t columns list search conds (left_by (selected_left (shown_texts list columns)) result)
+abbrev pub FindsFew : {K : Type 0} → (K → KeeperView) → K → K → List ℕ → List Column → Selection → Option Search → List Cond → Result Selected KeepFault → Type 0
+FindsFew view old new t columns want search conds result = LooksFewOver view old new t columns want search conds (left_by (selected_left (shown_texts want.list columns)) result)
 
 -- Of each of these rows that a search found, each text that the list, the conditions or the order name was read once at most; those that are left of what is shown
 -- weren't yet.
@@ -146,8 +147,8 @@ ReadsRows view old new list columns asked conds found result =
     (view old).counts (view new).counts
 
 -- A SELECT LOOKS UP NO MORE THAN THAT.
-abbrev pub SelectsFew : {K : Type 0} → (K → KeeperView) → K → K → (StoreState → SelectList → List ℕ → List Pred → Effect) → SelectList → List ℕ → List Pred → Type 0
-SelectsFew view old new effect list t preds = OverStates view old (λ m c. LooksFew (effect m list t preds) c m list t preds (search_in preds) (view old).counts (view new).counts)
+abbrev pub SelectsFew : {K : Type 0} → (K → KeeperView) → K → K → (StoreState → Selection → List ℕ → List Pred → Effect) → Selection → List ℕ → List Pred → Type 0
+SelectsFew view old new effect want t preds = OverStates view old (λ m c. LooksFew (effect m want t preds) c m want t preds (search_in preds) (view old).counts (view new).counts)
 
 -- ---- what it may look up, by rows
 
@@ -156,32 +157,32 @@ abbrev pub refused_allowance : Allowance
 refused_allowance = record { texts = Some 0; rows = Some 1; rules = None }
 
 -- where it isn't: so many texts, and 1 row of postings more than the search may look up in its index
-abbrev pub found_allowance : Content → StoreState → List ℕ → Table → SelectList → Search → List Cond → Allowance
-found_allowance c m t x list s conds = record {
-  texts = Some (select_texts m t x list s conds);
+abbrev pub found_allowance : Content → StoreState → List ℕ → Table → Selection → Search → List Cond → Allowance
+found_allowance c m t x want s conds = record {
+  texts = Some (select_texts m t x want s conds);
   rows = Some (1 + allowance_in c m.thesauri (named_index m t x.columns s) s);
   rules = None;
 }
 
 -- by its effect, which tells whether it is refused, and by the table, if it is there
-abbrev pub allowance_by : Content → StoreState → SelectList → List ℕ → List Cond → Search → Effect → Option Table → Allowance
-allowance_by c m list t conds s (Refused refusal) found = refused_allowance
-allowance_by c m list t conds s (Does next reply) None = refused_allowance
-allowance_by c m list t conds s (Does next reply) (Some x) = found_allowance c m t x list s conds
+abbrev pub allowance_by : Content → StoreState → Selection → List ℕ → List Cond → Search → Effect → Option Table → Allowance
+allowance_by c m want t conds s (Refused refusal) found = refused_allowance
+allowance_by c m want t conds s (Does next reply) None = refused_allowance
+allowance_by c m want t conds s (Does next reply) (Some x) = found_allowance c m t x want s conds
 
 -- of one without a search nothing is said
-abbrev pub searching_allowance : Effect → Content → StoreState → SelectList → List ℕ → List Pred → Option Search → Allowance
-searching_allowance effect c m list t preds None = unbounded
-searching_allowance effect c m list t preds (Some s) = allowance_by c m list t (conds_in preds) s effect (get m.tables t)
+abbrev pub searching_allowance : Effect → Content → StoreState → Selection → List ℕ → List Pred → Option Search → Allowance
+searching_allowance effect c m want t preds None = unbounded
+searching_allowance effect c m want t preds (Some s) = allowance_by c m want t (conds_in preds) s effect (get m.tables t)
 
 -- WHAT A SELECT MAY LOOK UP of a content that stands for a state
-abbrev pub select_allowance : Content → StoreState → SelectList → List ℕ → List Pred → Allowance
-select_allowance c m list t preds = searching_allowance (select_statement m list t preds) c m list t preds (search_in preds)
+abbrev pub select_allowance : Content → StoreState → Selection → List ℕ → List Pred → Allowance
+select_allowance c m want t preds = searching_allowance (select_statement m want t preds) c m want t preds (search_in preds)
 
 -- WHAT LOOKS UP NO MORE THAN A SELECT DOES AT MOST is within what it may.
 abbrev pub SelectsLookFew : Type 0
-SelectsLookFew = (c : Content) (m : StoreState) (list : SelectList) (t : List ℕ) (preds : List Pred) (old new : Counts)
-    → LooksFew (select_statement m list t preds) c m list t preds (search_in preds) old new → CountsWithin (select_allowance c m list t preds) old new
+SelectsLookFew = (c : Content) (m : StoreState) (want : Selection) (t : List ℕ) (preds : List Pred) (old new : Counts)
+    → LooksFew (select_statement m want t preds) c m want t preds (search_in preds) old new → CountsWithin (select_allowance c m want t preds) old new
 
 -- ---- computed examples: of the columns id, a (a CLOB), n (a NUMBER) and b (a VARCHAR2)
 
@@ -204,6 +205,22 @@ and_what_its_conditions_are_on = refl
 and_what_it_is_ordered_by : read_texts CountAll (record { item = ColumnItem (codes "b"); down = true } ∷ []) [] of_columns ≡ 3 ∷ []
 and_what_it_is_ordered_by = refl
 
+-- by a text, which the list shows too, and which two items name: it is read once
+ordered_and_shown : row_texts (selection (Items (ColumnItem (codes "b") ∷ [])) (record { item = ColumnItem (codes "b"); down = true } ∷ record { item = ColumnItem (codes "b"); down = false } ∷ []))
+    (Contains (codes "a") (codes "fox") None (Fits (pos 0))) [] of_columns ≡ 1
+unfolding chars
+ordered_and_shown = refl
+
+-- a count reads no text for an order, and an order by scores and keys none either
+a_count_in_order : row_texts (selection CountAll (record { item = ColumnItem (codes "b"); down = true } ∷ [])) (Contains (codes "a") (codes "fox") None (Fits (pos 0))) [] of_columns ≡ 0
+unfolding chars
+a_count_in_order = refl
+
+by_score_and_key : row_texts (selection (Items (ColumnItem (codes "id") ∷ [])) (record { item = ScoreItem (Fits (pos 1)); down = true } ∷ record { item = ColumnItem (codes "id"); down = false } ∷ []))
+    (Contains (codes "a") (codes "fox") (Some (Fits (pos 1))) (Fits (pos 0))) [] of_columns ≡ 0
+unfolding chars
+by_score_and_key = refl
+
 no_text_where_it_is_refused : (c : Content) (most : Counts) → (looks_by (Refused WrongValues) (index_looks c) most).texts ≡ 0
 no_text_where_it_is_refused c most = refl
 
@@ -212,11 +229,11 @@ abbrev a_fox : Search
 a_fox = Contains (codes "body") (codes "fox") None (Fits (pos 0))
 
 two_texts : (c : Content) (m : StoreState) (x : Table) → x.columns ≡ docs_columns → found_rows m (codes "docs") x (Some a_fox) ≡ (pos 1, 2) ∷ (pos 7, 1) ∷ []
-    → (found_allowance c m (codes "docs") x Star a_fox []).texts ≡ Some 2
+    → (found_allowance c m (codes "docs") x (selection Star []) a_fox []).texts ≡ Some 2
 unfolding chars
 two_texts c m x columns found = λ i. Some (texts_in_index m.tables (named_index m (codes "docs") (columns i) a_fox) a_fox + length (found i) * length (read_texts Star [] [] (columns i)))
 
 -- the index `di`, in a content that has three rows of `fox`: one row more for each of the two searches
 five_rows : (m : StoreState) (x : Table) → named_index m (codes "docs") x.columns a_fox ≡ Some (codes "di", as_index three_rows)
-    → (found_allowance foxes m (codes "docs") x Star a_fox []).rows ≡ Some 5
+    → (found_allowance foxes m (codes "docs") x (selection Star []) a_fox []).rows ≡ Some 5
 five_rows m x index = ap (λ (o : Option (List ℕ × Index)). Some (1 + allowance_in foxes m.thesauri o a_fox)) index ∙ ap (λ (n : ℕ). Some (1 + n)) (four_rows_of_fox m.thesauri)

@@ -35,7 +35,7 @@ in_order x (o ∷ os) hs = sorted_by (λ a b. rank_cmp (keys_from 0 (o ∷ os)) 
 
 -- ---- computed examples
 
-abbrev down_by : List ℕ → OrderItem
+abbrev pub down_by : List ℕ → OrderItem
 down_by name = record { item = ColumnItem name; down = true }
 
 as_they_are : (x : Table) (hs : List (ℤ × ℕ)) → in_order x [] hs ≡ hs

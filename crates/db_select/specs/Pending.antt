@@ -9,6 +9,7 @@ use Rattle.ct_base.specs.declared.lists.Value.{Value}
 use Rattle.ct_base.specs.declared.lists.Value.TheVariants.{Number, Text}
 use Rattle.ct_entry.specs.Maps.{Names}
 use Rattle.ct_entry.specs.Listings.{keys_where}
+use Rattle.st_parse.specs.declared.statements.OrderItem.{OrderItem}
 use Rattle.st_parse.specs.declared.statements.Pred.{Pred}
 use Rattle.st_parse.specs.declared.statements.Pred.TheVariants.{Cond as CondPred}
 use Rattle.st_parse.specs.declared.statements.SelectList.{SelectList}
@@ -22,7 +23,9 @@ use Rattle.db_cond.specs.Lines.{line}
 use Rattle.db_state.specs.States.{StoreState}
 use Rattle.db_state.specs.Effects.{Effect, Does, Refused, refuse}
 use Rattle.db_state.specs.Lines.{lines_or_none}
+use Rattle.db_select.specs.Ordering.{down_by}
 use Rattle.db_select.specs.Predicates.{below_seven}
+use Rattle.db_select.specs.Choosing.{Selection, selection}
 use Rattle.std.proofs.Common.{inl, ap, ◌∙◌}
 
 -- the line of a row that waits in the index of this name
@@ -43,10 +46,15 @@ is_view_list Star = true
 is_view_list CountAll = true
 is_view_list (Items items) = false
 
+-- in no order of its own
+abbrev pub is_unordered : List OrderItem → Bool
+is_unordered [] = true
+is_unordered (o ∷ orders) = false
+
 -- and without a predicate
-abbrev pub is_bare : List Pred → Bool
-is_bare [] = true
-is_bare (pred ∷ preds) = false
+abbrev pub is_bare : List Pred → List OrderItem → Bool
+is_bare [] orders = is_unordered orders
+is_bare (pred ∷ preds) orders = false
 
 -- the lines, or one line with their number, also where it is 0
 abbrev pub view_reply : SelectList → List (List Value) → List ℕ
@@ -55,8 +63,8 @@ view_reply CountAll lines = line (Number (pos (length lines)) ∷ [])
 view_reply (Items items) lines = lines_or_none lines
 
 -- A list of items is refused before, so the reply to it is never reached.
-abbrev pub select_pending : StoreState → SelectList → List Pred → Effect
-select_pending m list preds = refuse (not (is_view_list list && is_bare preds)) WrongValues (Does m (view_reply list (pending_lines m.indexes)))
+abbrev pub select_pending : StoreState → Selection → List Pred → Effect
+select_pending m want preds = refuse (not (is_view_list want.list && is_bare preds want.orders)) WrongValues (Does m (view_reply want.list (pending_lines m.indexes)))
 
 -- computed examples: an index of two settled rows and the row 3, which waits
 abbrev three_marks : List (ℤ × Mark (Unit {0}))
@@ -91,8 +99,11 @@ as_number = refl
 none_waits : view_reply Star [] ≡ codes "no rows selected\n"
 none_waits = refl
 
-with_a_predicate : (m : StoreState) → select_pending m Star (CondPred (below_seven (codes "id")) ∷ []) ≡ Refused WrongValues
+with_a_predicate : (m : StoreState) → select_pending m (selection Star []) (CondPred (below_seven (codes "id")) ∷ []) ≡ Refused WrongValues
 with_a_predicate m = refl
 
-of_a_list : (m : StoreState) → select_pending m (Items []) [] ≡ Refused WrongValues
+of_a_list : (m : StoreState) → select_pending m (selection (Items []) []) [] ≡ Refused WrongValues
 of_a_list m = refl
+
+in_an_order : (m : StoreState) → select_pending m (selection CountAll (down_by (codes "id") ∷ [])) [] ≡ Refused WrongValues
+in_an_order m = refl

@@ -1,5 +1,5 @@
 -- What a SELECT names, and its conditions: the parts of its list and of its predicates.
-use Rattle.std.specs.Prelude.{ℕ, pos, ◌≡◌, Bool, true, false, List, [], ◌∷◌, map, Option, Some, None, codes, refl}
+use Rattle.std.specs.Prelude.{ℕ, pos, ◌≡◌, Bool, true, false, List, [], ◌∷◌, ◌++◌, map, Option, Some, None, codes, refl}
 use Rattle.std.specs.List.{list_all, flat_map}
 use Rattle.st_parse.specs.declared.statements.Operand.TheVariants.{Number}
 use Rattle.st_parse.specs.declared.statements.Compare.TheVariants.{Less}
@@ -7,6 +7,7 @@ use Rattle.st_parse.specs.declared.statements.Cond.{Cond}
 use Rattle.st_parse.specs.declared.statements.Cond.TheVariants.{Compare}
 use Rattle.st_parse.specs.declared.statements.Item.{Item}
 use Rattle.st_parse.specs.declared.statements.Item.TheVariants.{Column as ColumnItem, Score}
+use Rattle.st_parse.specs.declared.statements.OrderItem.{OrderItem}
 use Rattle.st_parse.specs.declared.statements.Pred.{Pred}
 use Rattle.st_parse.specs.declared.statements.Pred.TheVariants.{Cond as CondPred, Contains, Catsearch, Matches}
 use Rattle.st_parse.specs.declared.statements.SelectList.{SelectList}
@@ -15,6 +16,8 @@ use Rattle.st_parse.specs.declared.statements.Whole.{Whole}
 use Rattle.st_parse.specs.declared.statements.Whole.TheVariants.{Fits}
 use Rattle.db_rows.specs.Checking.{cond_column}
 use Rattle.db_find.specs.Searches.{Search, search_label}
+use Rattle.db_select.specs.Ordering.{down_by}
+use Rattle.db_select.specs.Choosing.{Selection, selection}
 
 -- ---- the list
 
@@ -44,6 +47,19 @@ pred_column (CondPred cond) = cond_column cond
 pred_column (Contains column query label above) = column
 pred_column (Catsearch column query structured) = column
 pred_column (Matches column document) = column
+
+-- ---- the order
+
+-- the columns that the items of an order name
+abbrev pub order_columns : List OrderItem → List (List ℕ)
+order_columns [] = []
+order_columns (o ∷ orders) = columns_among (o.item ∷ []) ++ order_columns orders
+
+-- ALL COLUMNS THAT A SELECT NAMES, in the order of its text
+abbrev pub named_columns : Selection → List Pred → List (List ℕ)
+named_columns want preds = list_columns want.list ++ (map pred_column preds ++ order_columns want.orders)
+
+-- ---- the conditions
 
 -- the condition that the predicate is, if it is one
 abbrev pub cond_in : Pred → List Cond
@@ -82,3 +98,8 @@ no_column_of_all = refl
 
 no_column_of_a_score : list_columns (Items (ColumnItem (codes "id") ∷ Score (Fits (pos 1)) ∷ ColumnItem (codes "body") ∷ [])) ≡ codes "id" ∷ codes "body" ∷ []
 no_column_of_a_score = refl
+
+-- SELECT price .. ORDER BY id DESC
+all_its_columns : named_columns (selection (Items (ColumnItem (codes "price") ∷ [])) (down_by (codes "id") ∷ [])) fox_and_two
+    ≡ codes "price" ∷ codes "id" ∷ codes "body" ∷ codes "price" ∷ codes "id" ∷ []
+all_its_columns = refl

@@ -1,10 +1,10 @@
-//! Copies of conditions.
+//! Copies of conditions, and of what rows are ordered by.
 #![tactic(auto)]
 
 ghost use Rattle.std.specs.Prelude.{◌≡◌, IfOk};
 
 use ct_base::{Listed, Memory, Text};
-use st_parse::{Cond, Operand};
+use st_parse::{Cond, Item, Operand, OrderItem};
 use std::alloc::Global;
 
 fn copy_operand(alloc: Global, operand: &Operand) -> Result<Operand, Memory>
@@ -52,4 +52,24 @@ pub(crate) fn copy_cond(alloc: Global, cond: &Cond) -> Result<Cond, Memory>
             Ok(Cond::OneOf { column, values })
         }
     }
+}
+
+fn copy_item(item: &Item) -> Result<Item, Memory>
+    ensures { IfOk result (λ copy. copy ≡ item.now) }
+{
+    match item {
+        Item::Column(name) => Ok(Item::Column(name.clone()?)),
+        Item::Score(label) => Ok(Item::Score(*label)),
+    }
+}
+
+/// The same item. Its cost is the number of its bytes.
+pub(crate) fn copy_order(order: &OrderItem) -> Result<OrderItem, Memory>
+    ensures { IfOk result (λ copy. copy ≡ order.now) }
+{
+    let item = copy_item(&order.item)?;
+    Ok(OrderItem {
+        item,
+        down: order.down,
+    })
 }

@@ -1,7 +1,7 @@
 //! The rows that a SELECT finds.
 #![tactic(auto, using(ct_keep::specs::laws::Composing::reads_on, ct_keep::specs::laws::Composing::reads_short))]
 
-ghost use Rattle.std.specs.Prelude.{ℕ, ◌≡◌, ◌+◌, List, map, is_some, IfOk, IfSome, OnOk, None};
+ghost use Rattle.std.specs.Prelude.{ℕ, ◌≡◌, ◌+◌, List, map, is_some, IfOk, IfSome, OnOk};
 ghost use Rattle.ct_keep.specs.KeeperViews.{OnlyReads};
 ghost use Rattle.tb_table.specs.Tables.{Tables};
 ghost use Rattle.db_state.specs.States.{OverStates, Sees};
@@ -9,7 +9,7 @@ ghost use Rattle.db_rows.specs.Reading.{IsOwn};
 ghost use Rattle.db_rows.specs.Texts.{left_of};
 ghost use Rattle.db_rows.specs.Walking.{with_met};
 ghost use Rattle.db_select.specs.Giving.{GivesOver, GivesScores};
-ghost use Rattle.db_select.specs.Hits.{HoldOwn, PutsIfMet, TriesHit, TriesHits, hits, hits_of, met_among, rows_left, unscored as unscored_row};
+ghost use Rattle.db_select.specs.Hits.{HoldOwn, PutsIfMet, TriesHit, TriesHits, hits_of, met_among, rows_left, unscored as unscored_row, unsearched_rows};
 
 use crate::finds::FoundRow;
 use ct_base::{Memory, Name};
@@ -113,7 +113,7 @@ pub(crate) fn unsearched_hits<K: Keeper>(
     shown: &Shown,
 ) -> Result<Vec<FoundRow>, KeepFault>
     requires { (K.view keeper.old).ready }
-    ensures hits { GivesScores K.view keeper.old table.now columns.now result (λ m x. hits m table.now x None conds.now) }
+    ensures hits { GivesScores K.view keeper.old table.now columns.now result (λ m x. unsearched_rows m table.now x conds.now) }
     ensures own { Sees K.view keeper.old result (λ m rows. HoldOwn m.tables table.now rows.items) }
     ensures reads { OnlyReads K.view keeper.old keeper.new result }
 {

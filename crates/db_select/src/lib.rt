@@ -2,6 +2,7 @@
 #![tactic(auto)]
 
 mod checking;
+mod choosing;
 mod copying;
 mod fields;
 mod finds;

@@ -1,17 +1,18 @@
-//! What a SELECT names, and its conditions: the parts of its list and of its predicates.
+//! What a SELECT names, and its conditions: the parts of its list, of its predicates and of its order.
 #![tactic(auto)]
 
-ghost use Rattle.std.specs.Prelude.{◌≡◌, ◌++◌, map, IfOk, OnOk};
+ghost use Rattle.std.specs.Prelude.{◌≡◌, ◌++◌, ◌∷◌, [], map, IfOk, OnOk};
 ghost use Rattle.std.specs.List.{list_all};
 ghost use Rattle.std.specs.Option.{option_map};
 ghost use Rattle.db_state.specs.Columns.{first_unknown};
-ghost use Rattle.db_select.specs.Predicates.{columns_among, cond_in, conds_in as all_conds, is_built_pred, list_columns, pred_column as column_of_pred};
+ghost use Rattle.db_select.specs.Predicates.{columns_among, cond_in, conds_in as all_conds, is_built_pred, list_columns, named_columns, order_columns, pred_column as column_of_pred};
+ghost use Rattle.db_select.specs.Choosing.{selection};
 
 use crate::copying::copy_cond;
 use ct_base::{Memory, Name};
 use db_rows::cond_column;
 use db_state::has_column;
-use st_parse::{Cond, Item, Pred, SelectList};
+use st_parse::{Cond, Item, OrderItem, Pred, SelectList};
 use std::alloc::Global;
 use tb_table::Column;
 
@@ -80,18 +81,59 @@ fn unknown_listed<'a>(list: &'a SelectList, columns: &[Column]) -> Option<&'a Na
     }
 }
 
-/// The first column of the list and the predicates that isn't there. Its cost is the number of their columns times that of the
-/// table's.
+/// The column of the item, if it names one and that isn't there.
+fn unknown_in<'a>(item: &'a Item, columns: &[Column]) -> Option<&'a Name>
+    ensures { option_map (λ name. name.now) result ≡ first_unknown (columns_among (item.now ∷ [])) columns.now }
+{
+    match item {
+        Item::Column(name) => if has_column(name, columns) {
+            None
+        } else {
+            Some(name)
+        },
+        Item::Score(_) => None,
+    }
+}
+
+/// The first column of an order that isn't there.
+fn unknown_ordered<'a>(orders: &'a [OrderItem], columns: &[Column]) -> Option<&'a Name>
+    ensures { option_map (λ name. name.now) result ≡ first_unknown (order_columns orders.now) columns.now }
+{
+    for order in orders {
+        if let Some(name) = unknown_in(&order.item, columns) {
+            return Some(name);
+        }
+    }
+    None
+}
+
+/// The first column of the predicates and the order that isn't there.
+fn unknown_behind<'a>(
+    preds: &'a [Pred],
+    orders: &'a [OrderItem],
+    columns: &[Column],
+) -> Option<&'a Name>
+    ensures { option_map (λ name. name.now) result ≡ first_unknown (map column_of_pred preds.now ++ order_columns orders.now) columns.now }
+{
+    match unknown_column(preds, columns) {
+        Some(name) => Some(name),
+        None => unknown_ordered(orders, columns),
+    }
+}
+
+/// The first column of the list, the predicates and the order that isn't there. Its cost is the number of their columns times that of
+/// the table's.
 pub(crate) fn unknown_name<'a>(
     list: &'a SelectList,
+    orders: &'a [OrderItem],
     preds: &'a [Pred],
     columns: &[Column],
 ) -> Option<&'a Name>
-    ensures { option_map (λ name. name.now) result ≡ first_unknown (list_columns list.now ++ map column_of_pred preds.now) columns.now }
+    ensures { option_map (λ name. name.now) result ≡ first_unknown (named_columns (selection list.now orders.now) preds.now) columns.now }
 {
     match unknown_listed(list, columns) {
         Some(name) => Some(name),
-        None => unknown_column(preds, columns),
+        None => unknown_behind(preds, orders, columns),
     }
 }
 

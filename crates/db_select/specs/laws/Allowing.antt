@@ -10,7 +10,6 @@ use Rattle.ct_entry.specs.declared.kinds.Kind.TheVariants as kind
 use Rattle.ct_entry.specs.Kinds.{code}
 use Rattle.st_parse.specs.declared.statements.Cond.{Cond}
 use Rattle.st_parse.specs.declared.statements.Pred.{Pred}
-use Rattle.st_parse.specs.declared.statements.SelectList.{SelectList}
 use Rattle.tb_table.specs.Tables.{Table}
 use Rattle.ix_search.specs.Looking.{QueriesLookFew}
 use Rattle.db_looks.specs.Allowances.{CountsWithin, LooksOver}
@@ -23,6 +22,7 @@ use Rattle.db_find.specs.laws.Looking.{in_rows, indexes_rows}
 use Rattle.db_select.specs.Looking.{LooksFew, SelectsFew, SelectsLookFew, allowance_by, found_looks, index_looks, looks_by, searching_allowance, select_allowance, table_looks}
 use Rattle.db_select.specs.Predicates.{conds_in}
 use Rattle.db_select.specs.Statements.{select_statement}
+use Rattle.db_select.specs.Choosing.{Selection}
 
 -- ---- where nothing is said of rules
 
@@ -38,36 +38,36 @@ leaving_rows (Catsearch column query structured) most old new rises = rises.rows
 -- ---- what a statement looks up
 
 -- by what the statement does, and by the table, if it is there
-table_within : QueriesLookFew → (c : Content) (m : StoreState) (list : SelectList) (t : List ℕ) (conds : List Cond) (s : Search) (effect : Effect) (found : Option Table) (old new : Counts)
-    → RisesBy (leaving_rules s new (looks_by effect (index_looks c) (table_looks c m t found list s conds))) old new → CountsWithin (allowance_by c m list t conds s effect found) old new
-table_within looking c m list t conds s (Refused refusal) found old new rises =
+table_within : QueriesLookFew → (c : Content) (m : StoreState) (want : Selection) (t : List ℕ) (conds : List Cond) (s : Search) (effect : Effect) (found : Option Table) (old new : Counts)
+    → RisesBy (leaving_rules s new (looks_by effect (index_looks c) (table_looks c m t found want s conds))) old new → CountsWithin (allowance_by c m want t conds s effect found) old new
+table_within looking c m want t conds s (Refused refusal) found old new rises =
     let texts : new.texts ≤ old.texts + 0 = leaving_texts s (index_looks c) old new rises in
     let rows : new.rows ≤ old.rows + (scan_looks (code kind.Indexes ∷ []) c).rows = leaving_rows s (index_looks c) old new rises in
     let few = indexes_rows c in
     record { texts = texts; rows = omega (arith, rows, few); rules = tt }
-table_within looking c m list t conds s (Does next reply) None old new rises =
+table_within looking c m want t conds s (Does next reply) None old new rises =
     let texts : new.texts ≤ old.texts + 0 = leaving_texts s no_looks old new rises in
     let rows : new.rows ≤ old.rows + 0 = leaving_rows s no_looks old new rises in
     record { texts = texts; rows = omega (arith, rows); rules = tt }
-table_within looking c m list t conds s (Does next reply) (Some x) old new rises =
+table_within looking c m want t conds s (Does next reply) (Some x) old new rises =
     let rows : new.rows ≤ old.rows + ((scan_looks (code kind.Indexes ∷ []) c).rows + (looks_in c m.tables m.thesauri (named_index m t x.columns s) s).rows) =
-    leaving_rows s (found_looks c m t x list s conds) old new rises in
+    leaving_rows s (found_looks c m t x want s conds) old new rises in
     let few = indexes_rows c in
     let search = in_rows looking c m.tables m.thesauri (named_index m t x.columns s) s in
-    record { texts = leaving_texts s (found_looks c m t x list s conds) old new rises; rows = omega (arith, rows, few, search); rules = tt }
+    record { texts = leaving_texts s (found_looks c m t x want s conds) old new rises; rows = omega (arith, rows, few, search); rules = tt }
 
-few_within : QueriesLookFew → (effect : Effect) (c : Content) (m : StoreState) (list : SelectList) (t : List ℕ) (preds : List Pred) (search : Option Search) (old new : Counts)
-    → LooksFew effect c m list t preds search old new → CountsWithin (searching_allowance effect c m list t preds search) old new
-few_within looking effect c m list t preds None old new few = record { texts = tt; rows = tt; rules = tt }
-few_within looking effect c m list t preds (Some s) old new few = table_within looking c m list t (conds_in preds) s effect (get m.tables t) old new few
+few_within : QueriesLookFew → (effect : Effect) (c : Content) (m : StoreState) (want : Selection) (t : List ℕ) (preds : List Pred) (search : Option Search) (old new : Counts)
+    → LooksFew effect c m want t preds search old new → CountsWithin (searching_allowance effect c m want t preds search) old new
+few_within looking effect c m want t preds None old new few = record { texts = tt; rows = tt; rules = tt }
+few_within looking effect c m want t preds (Some s) old new few = table_within looking c m want t (conds_in preds) s effect (get m.tables t) old new few
 
 -- WHAT A SELECT LOOKS UP is within what it may.
 pub selects_look_few : QueriesLookFew → SelectsLookFew
-selects_look_few looking c m list t preds old new few = few_within looking (select_statement m list t preds) c m list t preds (search_in preds) old new few
+selects_look_few looking c m want t preds old new few = few_within looking (select_statement m want t preds) c m want t preds (search_in preds) old new few
 
 -- The same of a keeper of which a SELECT only read.
-pub select_within : {K : Type 0} (view : K → KeeperView) (old new : K) (list : SelectList) (t : List ℕ) (preds : List Pred) (fault : Option KeepFault) → SelectsLookFew → ReadsKeeper (view old) (view new) fault
-    → SelectsFew view old new select_statement list t preds → LooksOver StandsForState (λ c m. select_allowance c m list t preds) (view old) (view new) fault
-select_within view old new list t preds fault law reads few = record {
-  within = λ m c holds stands. record { counts = law c m list t preds (view old).counts (view new).counts (few m c holds stands); unchanged = λ said. reads.content };
+pub select_within : {K : Type 0} (view : K → KeeperView) (old new : K) (want : Selection) (t : List ℕ) (preds : List Pred) (fault : Option KeepFault) → SelectsLookFew → ReadsKeeper (view old) (view new) fault
+    → SelectsFew view old new select_statement want t preds → LooksOver StandsForState (λ c m. select_allowance c m want t preds) (view old) (view new) fault
+select_within view old new want t preds fault law reads few = record {
+  within = λ m c holds stands. record { counts = law c m want t preds (view old).counts (view new).counts (few m c holds stands); unchanged = λ said. reads.content };
 }

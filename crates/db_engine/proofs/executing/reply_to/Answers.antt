@@ -1,4 +1,4 @@
-use Rattle.std.proofs.Common.{ap, sym, List, None, Option, refl, ◌∙◌}
+use Rattle.std.proofs.Common.{◌≡◌, ap, sym, List, None, Option, refl, ◌∙◌}
 use Rattle.std.specs.Prelude.{is_some}
 use Rattle.std.proofs.lemmas.Result.{err_from_is_err_and, IfOk-weaker}
 use Rattle.ct_keep.specs.KeeperViews.{fault_of}
@@ -19,6 +19,7 @@ use Rattle.db_looks.specs.laws.Composing.{over_as, over_unsaid}
 use Rattle.db_state.specs.States.{StandsForState}
 use Rattle.db_select.specs.Looking.{select_allowance}
 use Rattle.db_select.specs.Statements.{select_statement}
+use Rattle.db_select.specs.Choosing.{selection}
 use Rattle.db_select.specs.laws.Allowing.{select_within}
 use Rattle.db_select.specs.laws.Selects.{statement_keeps}
 use Rattle.db_engine.specs.Looking.{allowance}
@@ -46,9 +47,11 @@ returns-in-Insert-clause-serves g c =
 
 pub returns-in-Select-clause-serves : goal.returns-in-Select-clause-serves
 returns-in-Select-clause-serves g c =
-    serves_as (λ m. select_statement m c.in-Select.list c.in-Select.table c.as_slice-in-Select.result.now) _ None _ _ _ c.select.result
-    (λ m. ap (effect m) c.in-Select.is ∙ ap (select_statement m c.in-Select.list c.in-Select.table) (sym c.as_slice-in-Select.ensures)) (ap done_line c.in-Select.is)
-    (serves_look _ _ _ _ c.select.ensures.reads c.select.ensures.reply (λ m. statement_keeps m c.in-Select.list c.in-Select.table c.as_slice-in-Select.result.now))
+    let want = selection c.in-Select.list c.as_slice-in-Select-2.result.now in
+    let lent : selection c.in-Select.list c.in-Select.orders ≡ want = ap (selection c.in-Select.list) (sym c.as_slice-in-Select-2.ensures) in
+    serves_as (λ m. select_statement m want c.in-Select.table c.as_slice-in-Select.result.now) _ None _ _ _ c.select.result
+    (λ m. ap (effect m) c.in-Select.is ∙ λ i. select_statement m (lent i) c.in-Select.table (sym c.as_slice-in-Select.ensures i)) (ap done_line c.in-Select.is)
+    (serves_look _ _ _ _ c.select.ensures.reads c.select.ensures.reply (λ m. statement_keeps m want c.in-Select.table c.as_slice-in-Select.result.now))
 
 pub returns-in-Exec-clause-serves : goal.returns-in-Exec-clause-serves
 returns-in-Exec-clause-serves g c =
@@ -107,9 +110,11 @@ returns-in-Exec-clause-fixed g c = λ m fixed.
 
 pub returns-in-Select-clause-looks : goal.returns-in-Select-clause-looks
 returns-in-Select-clause-looks g c =
-    over_as StandsForState (λ k m. select_allowance k m c.in-Select.list c.in-Select.table c.as_slice-in-Select.result.now) _ _ _ _
-    (λ k m. ap (allowance k m) c.in-Select.is ∙ ap (select_allowance k m c.in-Select.list c.in-Select.table) (sym c.as_slice-in-Select.ensures))
-    (select_within g.K.Keeper.view c.args.keeper.now c.select.new.keeper c.in-Select.list c.in-Select.table c.as_slice-in-Select.result.now (fault_of c.select.result) c.looking_law.ensures c.select.ensures.reads c.select.ensures.at_most)
+    let want = selection c.in-Select.list c.as_slice-in-Select-2.result.now in
+    let lent : selection c.in-Select.list c.in-Select.orders ≡ want = ap (selection c.in-Select.list) (sym c.as_slice-in-Select-2.ensures) in
+    over_as StandsForState (λ k m. select_allowance k m want c.in-Select.table c.as_slice-in-Select.result.now) _ _ _ _
+    (λ k m. ap (allowance k m) c.in-Select.is ∙ λ i. select_allowance k m (lent i) c.in-Select.table (sym c.as_slice-in-Select.ensures i))
+    (select_within g.K.Keeper.view c.args.keeper.now c.select.new.keeper want c.in-Select.table c.as_slice-in-Select.result.now (fault_of c.select.result) c.looking_law.ensures c.select.ensures.reads c.select.ensures.at_most)
 
 pub returns-in-CreateTable-clause-looks : goal.returns-in-CreateTable-clause-looks
 returns-in-CreateTable-clause-looks g c = over_unsaid StandsForState _ _ _ _ (λ k m. ap (allowance k m) c.in-CreateTable.is)
