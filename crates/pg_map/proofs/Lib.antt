@@ -1,3 +1,4 @@
+pub mod BuiltMaps
 pub mod ItemReads
 pub mod LongPages
 pub mod MapReads

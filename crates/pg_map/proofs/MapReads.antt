@@ -1,35 +1,28 @@
 -- The entries of some pages, read string by string.
-use Rattle.std.specs.Prelude.{Bool, true, false, cond, replicate, ◌==◌, Result, Ok, Err, IfOk, IsSome}
+use Rattle.std.specs.Prelude.{Bool, true, false, cond, replicate, ◌==◌}
 use Rattle.std.specs.Bool.{if◌then◌else◌}
-use Rattle.std.specs.Option.{option_or, unwrap_or}
 use Rattle.std.proofs.Common.{◌≡◌, ◌≢◌, ◌⊎◌, inl, inr, ⊎_elim, ℕ, zero, suc, ◌+◌, ◌-◌, ◌^◌, ◌<◌, ◌≤◌, List, [], ◌∷◌, ◌++◌, length, get_or, take, drop, take-append-drop, drop-cons, Option, Some, None, refl, sym, ap, subst, ◌∙◌, arith, append_assoc, append-nil, length-append}
 use Rattle.std.proofs.lemmas.Bool.Decides.{eqb_tells}
-use Rattle.std.proofs.lemmas.Bool.{false≢true}
 use Rattle.std.proofs.lemmas.Grind.{flat_map-append}
 use Rattle.std.proofs.lemmas.List.{map-append}
-use Rattle.std.proofs.lemmas.List.Elements.{Contains-push_cases, at_from_Contains}
 use Rattle.std.specs.List.{Contains}
-use Rattle.std.specs.Ordering.{nat_cmp}
-use Rattle.std.specs.Cmp.Lexicographic.{slice_cmp}
-use Rattle.std.specs.FinMap.{get, insert, empty, get-insert, get-empty}
-use Rattle.std.proofs.lemmas.Cmp.{nat_list_cmp_total}
-use Rattle.ct_keep.specs.Content.{Content, Change, after}
-use Rattle.ct_keep.specs.laws.Content.{same, same_itself, same_keys, last_change, get-after}
+use Rattle.std.specs.FinMap.{get}
+use Rattle.ct_keep.specs.Content.{Content}
 use Rattle.pg_map.specs.ChainReading.{taken_times}
 use Rattle.pg_map.specs.Holding.{kind_of_page, IsChain, Placed, StandsFor, times, one_if_long, IsLayout, chains_of, bytes_of, entries_of}
 use Rattle.pg_map.specs.Kinds.{Each, Kind, Free, Slotted, Long, IsKind, StringItem, Short, Far, item_bytes, IsStringItem, strings_of, Entry}
 use Rattle.pg_map.specs.Loose.{values_under, held, AreValues, Stand, IsLoose}
-use Rattle.pg_map.specs.laws.Loose.{values-append, times-append}
-use Rattle.pg_map.specs.MapReading.{puts, nothing}
+use Rattle.pg_map.specs.laws.Loose.{times-append}
 use Rattle.pg_map.specs.laws.OneMap.{one_item, one_entry}
 use Rattle.pg_map.specs.PageStrings.{string_key}
 use Rattle.pg_map.specs.Places.{PagePlaces}
 use Rattle.pg_map.specs.Done.{IsDone, HasKeyAt}
-use Rattle.pg_map.specs.Readings.{ReadState, StringAt, strings_of_page, strings_before, strings_at, without_places, one_if_some, IsReadingOf, IsNoLayout, IsReadOr, HasEntry, IsEntryOr, AreAllTaken, IsOneLeft, HasPlaces}
+use Rattle.pg_map.specs.ReadEntries.{EntryAt, without_pages, IsMapOf, HasKeyTwice, IsBuiltOr}
+use Rattle.pg_map.specs.Readings.{StringAt, strings_of_page, strings_before, strings_at, without_places, KeyAt, entry_keys, keys_read, IsReadingOf, IsNoLayout, IsReadOr, HasEntry, IsEntryOr, AreAllTaken, IsOneLeft, HasPlaces, IsMapOr}
 use Rattle.pg_map.specs.laws.Whole.{loosened}
 use Rattle.pg_map.specs.laws.PageStrings.{item_key}
 use Rattle.pg_map.specs.laws.Holding.{stands_key}
-use Rattle.pg_map.proofs.Strings.{without-at_place, without_places-append, at_place-append, strings_to, strings_all, has_string}
+use Rattle.pg_map.proofs.Strings.{without-at_place, without_places-append, at_place-append, entry_keys-append, keys_read-append, has_key, key_of, strings_to, strings_all, has_string}
 
 -- ---- the entries of a string stand in one way
 
@@ -95,7 +88,6 @@ record IsNext (ks : List Kind) (m : Content) (ps : List Placed) (string : List �
   good : IsStringItem p.item
   stands : StandsFor ks p.item p.entry p.chain
   long : (i : ℕ) → 3 ≤ i → times i (chains_of ps) + times i p.chain ≤ 1
-  few : (key : List ℕ) → length (values_under key (entries_of ps)) + length (values_under key (p.entry ∷ [])) ≤ 1
 
 long_once : (k : Kind) → one_if_long k ≤ 1
 long_once Free = omega arith
@@ -106,14 +98,11 @@ held_few : (o : Option (List ℕ)) → length (held o) ≤ 1
 held_few None = omega arith
 held_few (Some v) = omega arith
 
-first_few : (e : Entry) (es : List Entry) (key : List ℕ) → length (values_under key (e ∷ [])) ≤ length (values_under key (e ∷ es))
-first_few e es key = elim (same key e.0) as (λ b. length (cond b (e.1 ∷ []) []) ≤ length (cond b (e.1 ∷ values_under key es) (values_under key es))) [ true ↦ omega arith | false ↦ omega arith ]
-
 each_right : (P : Placed → Type 0) (us vs : List Placed) → Each P (us ++ vs) → Each P vs
 each_right P [] vs a = a
 each_right P (u ∷ us) vs a = each_right P us vs a.1
 
-next_of : (ks : List Kind) (m : Content) (read : List StringAt) (s : ReadState) (taken : List Bool) (string : List ℕ) (rest : List (List ℕ)) → (r : IsReadingOf ks read s taken) → strings_of ks ≡ without_places read ++ string ∷ rest → IsLayout ks m → IsNext ks m r.placed string
+next_of : (ks : List Kind) (m : Content) (read : List StringAt) (s : List EntryAt) (taken : List Bool) (string : List ℕ) (rest : List (List ℕ)) → (r : IsReadingOf ks read s taken) → strings_of ks ≡ without_places read ++ string ∷ rest → IsLayout ks m → IsNext ks m r.placed string
 next_of ks m read s taken string rest r strings layout =
     let l = loosened ks m layout in
     let b = begins ks r.placed l.placed (string ∷ rest) r.items r.stand l.items l.stand (sym l.strings ∙ strings ∙ ap (λ (x : List (List ℕ)). x ++ string ∷ rest) r.strings) in
@@ -136,11 +125,6 @@ next_of ks m read s taken string rest r strings layout =
               let c = ap (λ (x : List Placed). times i (chains_of x)) all ∙ ap (times i) (flat_map-append (λ (p : Placed). p.chain) r.placed (p ∷ more)) in
               let o = long_once (kind_of_page ks i) in
               omega (arith, e, c, o, times-append i (chains_of r.placed) (p.chain ++ chains_of more), times-append i p.chain (chains_of more));
-          few = λ key.
-              let v = ap (λ (x : List (List ℕ)). length x) (sym (l.values.are key) ∙ ap (λ (x : List Placed). values_under key (entries_of x)) all ∙ ap (values_under key) (map-append (λ (p : Placed). p.entry) r.placed (p ∷ more)) ∙ values-append key (entries_of r.placed) (entries_of (p ∷ more))) in
-              let h = held_few (get m key) in
-              let f = first_few p.entry (entries_of more) key in
-              omega (arith, v, h, f, length-append (values_under key (entries_of r.placed)) (values_under key (entries_of (p ∷ more))));
         }
       where
         first_string : List (List ℕ) → List ℕ
@@ -152,7 +136,7 @@ next_of ks m read s taken string rest r strings layout =
 behind : (read : List StringAt) (at : ℕ) (string : List ℕ) (rest : List (List ℕ)) → without_places (read ++ (at, string) ∷ []) ++ rest ≡ without_places read ++ string ∷ rest
 behind read at string rest = ap (λ (l : List (List ℕ)). l ++ rest) (without_places-append read ((at, string) ∷ [])) ∙ append_assoc (without_places read) (string ∷ []) rest
 
-module _ (ks : List Kind) (read : List StringAt) (s : ReadState) (taken : List Bool) (at : ℕ) (string : List ℕ) (rest : List (List ℕ)) where
+module _ (ks : List Kind) (read : List StringAt) (s : List EntryAt) (taken : List Bool) (at : ℕ) (string : List ℕ) (rest : List (List ℕ)) where
   -- the string is none of an entry
   pub no_item : IsReadingOf ks read s taken → ((item : StringItem) → IsStringItem item → item_bytes item ≡ string → ⊥) → strings_of ks ≡ without_places (read ++ (at, string) ∷ []) ++ rest → IsNoLayout ks
   no_item r none strings = record { none = λ m layout. let n = next_of ks m read s taken string rest r (strings ∙ behind read at string rest) layout in none n.p.item n.good n.bytes }
@@ -167,32 +151,15 @@ module _ (ks : List Kind) (read : List StringAt) (s : ReadState) (taken : List B
         (record { once = λ i low. let t = r.takes i low in let o = n.long i low in omega (arith, t, o) });
   }
 
-  -- its key was read before
-  pub no_key : (item : StringItem) (mid : List Bool) (entry : Entry) → IsReadingOf ks read s taken → IsStringItem item → item_bytes item ≡ string → HasEntry ks taken mid item entry → one_if_some (get s.places entry.0) ≡ 1 → strings_of ks ≡ without_places (read ++ (at, string) ∷ []) ++ rest → IsNoLayout ks
-  no_key item mid entry r good bytes has some strings = record {
-    none = λ m layout.
-        let n = next_of ks m read s taken string rest r (strings ∙ behind read at string rest) layout in
-        let same_ : n.p.item ≡ item = one_item n.p.item item n.good good (n.bytes ∙ sym bytes) in
-        let entry_is : n.p.entry ≡ entry = one_entry ks item n.p.entry entry n.p.chain has.chain (subst (λ (i : StringItem). StandsFor ks i n.p.entry n.p.chain) same_ n.stands) has.stands in
-        let f = n.few entry.0 in
-        let here_ : length (values_under entry.0 (n.p.entry ∷ [])) ≡ 1 =
-        ap (λ (e : Entry). length (values_under entry.0 (e ∷ []))) entry_is ∙ ap (λ (b : Bool). length (cond b (entry.1 ∷ []) [])) (same_itself entry.0) in
-        let c = r.counts entry.0 in
-        omega (arith, f, here_, c, some);
-  }
-
 -- ---- an entry more
 
 each_push : (P : Placed → Type 0) (ps : List Placed) (p : Placed) → Each P ps → P p → Each P (ps ++ p ∷ [])
 each_push P [] p a b = (b, tt)
 each_push P (q ∷ ps) p a b = (a.0, each_push P ps p a.1 b)
 
-get_put : (places : PagePlaces) (key q : List ℕ) (at : ℕ) → get (insert places key at) q ≡ cond (same q key) (Some at) (get places q)
-get_put places key q at = get-insert nat_list_cmp_total places key at q
-
-pub read_more : (ks : List Kind) (read : List StringAt) (s t : ReadState) (old new : List Bool) (at : ℕ) (string : List ℕ) (item : StringItem) (entry : Entry) → IsReadingOf ks read s old → IsStringItem item → item_bytes item ≡ string → HasEntry ks old new item entry
-    → get s.places entry.0 ≡ None → t.places ≡ insert s.places entry.0 at → t.changes ≡ s.changes ++ (entry.0, Some entry.1) ∷ [] → IsReadingOf ks (read ++ (at, string) ∷ []) t new
-read_more ks read s t old new at string item entry r good bytes has none places changes = record {
+pub read_more : (ks : List Kind) (read : List StringAt) (s t : List EntryAt) (old new : List Bool) (at : ℕ) (string : List ℕ) (item : StringItem) (entry : Entry) → IsReadingOf ks read s old → IsStringItem item → item_bytes item ≡ string → HasEntry ks old new item entry
+    → t ≡ s ++ (at, entry) ∷ [] → IsReadingOf ks (read ++ (at, string) ∷ []) t new
+read_more ks read s t old new at string item entry r good bytes has is = record {
   placed = r.placed ++ p ∷ [];
   strings = without_places-append read ((at, string) ∷ []) ∙ ap (λ (l : List (List ℕ)). l ++ string ∷ []) r.strings ∙ ap (λ (b : List ℕ). bytes_of r.placed ++ b ∷ []) (sym bytes) ∙ sym (map-append (λ (q : Placed). item_bytes q.item) r.placed (p ∷ []));
   items = each_push (λ (q : Placed). IsStringItem q.item) r.placed p r.items good;
@@ -202,10 +169,8 @@ read_more ks read s t old new at string item entry r good bytes has none places 
       let w = r.takes i low in
       let n = has.takes.counts i low in
       omega (arith, e, w, n, times-append i (chains_of r.placed) has.chain);
-  changes = changes ∙ ap (λ (l : List Change). l ++ (entry.0, Some entry.1) ∷ []) r.changes ∙ sym (map-append (λ (e : Entry). (e.0, Some e.1)) (entries_of r.placed) (entry ∷ []))
-      ∙ ap puts (sym (map-append (λ (q : Placed). q.entry) r.placed (p ∷ [])));
-  found = λ n other has_. ⊎_elim (λ before. old_place n other before) (λ last. new_place n other last) (Contains-push_cases read (at, string) (n, other) has_);
-  counts = λ q. count q (same q entry.0) refl;
+  entries = ap without_pages is ∙ map-append (λ (e : EntryAt). e.1) s ((at, entry) ∷ []) ∙ ap (λ (l : List Entry). l ++ entry ∷ []) r.entries ∙ sym (map-append (λ (q : Placed). q.entry) r.placed (p ∷ []));
+  keys = ap entry_keys is ∙ entry_keys-append s ((at, entry) ∷ []) ∙ ap (λ (l : List KeyAt). l ++ (at, entry.0) ∷ []) r.keys ∙ ap (λ (k : List ℕ). keys_read read ++ (at, k) ∷ []) (sym key_is) ∙ sym (keys_read-append read ((at, string) ∷ []));
 }
   where
     p : Placed
@@ -214,44 +179,17 @@ read_more ks read s t old new at string item entry r good bytes has none places 
     key_is : string_key string ≡ entry.0
     key_is = ap string_key (sym bytes) ∙ item_key item good ∙ sym (stands_key ks item entry has.chain has.stands)
 
-    now : (q : List ℕ) → get t.places q ≡ cond (same q entry.0) (Some at) (get s.places q)
-    now q = ap (λ (m : PagePlaces). get m q) places ∙ get_put s.places entry.0 q at
-
-    old_place : (n : ℕ) (other : List ℕ) → Contains read (n, other) → get t.places (string_key other) ≡ Some n
-    old_place n other before = of (same (string_key other) entry.0) refl
-      where
-        of : (b : Bool) → same (string_key other) entry.0 ≡ b → get t.places (string_key other) ≡ Some n
-        of true is = absurd (cc (sym (r.found n other before) ∙ ap (get s.places) (same_keys (string_key other) entry.0 is) ∙ none))
-        of false is = now (string_key other) ∙ ap (λ (b : Bool). cond b (Some at) (get s.places (string_key other))) is ∙ r.found n other before
-
-    new_place : (n : ℕ) (other : List ℕ) → ◌≡◌ {A = ℕ × List ℕ} (at, string) (n, other) → get t.places (string_key other) ≡ Some n
-    new_place n other last =
-        ap (λ (l : StringAt). get t.places (string_key l.1)) (sym last) ∙ ap (get t.places) key_is ∙ now entry.0 ∙ ap (λ (b : Bool). cond b (Some at) (get s.places entry.0)) (same_itself entry.0) ∙ ap (λ (l : StringAt). Some l.0) last
-
-    count : (q : List ℕ) (b : Bool) → same q entry.0 ≡ b → length (values_under q (entries_of (r.placed ++ p ∷ []))) ≡ one_if_some (get t.places q)
-    count q b is =
-        let all = ap (λ (l : List (List ℕ)). length l) (ap (values_under q) (map-append (λ (x : Placed). x.entry) r.placed (p ∷ [])) ∙ values-append q (entries_of r.placed) (entry ∷ [])) in
-        let mine = ap (λ (b : Bool). length (cond b (entry.1 ∷ []) [])) is in
-        let after_ = ap one_if_some (now q ∙ ap (λ (b : Bool). cond b (Some at) (get s.places q)) is) in
-        of b is mine after_ (omega (arith, all, r.counts q, length-append (values_under q (entries_of r.placed)) (values_under q (entry ∷ []))))
-      where
-        of : (b : Bool) → same q entry.0 ≡ b → length (values_under q (entry ∷ [])) ≡ length (cond b (entry.1 ∷ []) []) → one_if_some (get t.places q) ≡ one_if_some (cond b (Some at) (get s.places q))
-            → length (values_under q (entries_of (r.placed ++ p ∷ []))) ≡ one_if_some (get s.places q) + length (values_under q (entry ∷ [])) → length (values_under q (entries_of (r.placed ++ p ∷ []))) ≡ one_if_some (get t.places q)
-        of true is mine after_ sum = let z : one_if_some (get s.places q) ≡ 0 = ap one_if_some (ap (get s.places) (same_keys q entry.0 is) ∙ none) in omega (arith, mine, after_, sum, z)
-        of false is mine after_ sum = omega (arith, mine, after_, sum)
-
 -- ---- nothing was read
 
-pub read_none : (ks : List Kind) (s : ReadState) (taken : List Bool) → s.places ≡ empty → s.changes ≡ [] → ((i : ℕ) → taken_times taken i ≡ 0) → IsReadingOf ks [] s taken
-read_none ks s taken places changes none = record {
+pub read_none : (ks : List Kind) (s : List EntryAt) (taken : List Bool) → s ≡ [] → ((i : ℕ) → taken_times taken i ≡ 0) → IsReadingOf ks [] s taken
+read_none ks s taken is none = record {
   placed = [];
   strings = refl;
   items = tt;
   stand = tt;
   takes = λ i low. sym (none i);
-  changes = changes;
-  found = λ at string has. absurd (let w = at_from_Contains [] (at, string) has in omega (arith, w.1));
-  counts = λ key. sym (ap one_if_some (ap (λ (m : PagePlaces). get m key) places ∙ get-empty {X = ℕ} (slice_cmp nat_cmp) key));
+  entries = ap without_pages is;
+  keys = ap entry_keys is;
 }
 
 -- ---- all was read
@@ -277,58 +215,23 @@ placed_long ks (p ∷ ps) i stand some = of (λ times_. placed_long ks ps i stan
     of again zero none = again (omega (arith, none, some, times-append i p.chain (chains_of ps)))
     of again (suc n) more = one p.item p.entry p.chain stand.0 (omega (arith, more))
 
-last_none : (q : List ℕ) (es : List Entry) → values_under q es ≡ [] → last_change q (puts es) ≡ None
-last_none q [] none = refl
-last_none q (e ∷ es) none = of (same q e.0) none (λ rest. last_none q es rest)
-  where
-    of : (b : Bool) → cond b (e.1 ∷ values_under q es) (values_under q es) ≡ [] → (values_under q es ≡ [] → last_change q (puts es) ≡ None) → option_or (last_change q (puts es)) (if b then Some (Some e.1) else None) ≡ None
-    of true is again = absurd (cc is)
-    of false is again = ap (λ (o : Option (Option (List ℕ))). option_or o None) (again is)
-
-values_put : (q : List ℕ) (es : List Entry) → length (values_under q es) ≤ 1 → values_under q es ≡ held (unwrap_or (last_change q (puts es)) None)
-values_put q [] few = refl
-values_put q (e ∷ es) few = of (same q e.0) few (λ rest. values_put q es rest)
-  where
-    empty_of : (l : List (List ℕ)) → length l ≤ 0 → l ≡ []
-    empty_of [] none = refl
-    empty_of (x ∷ l) none = absurd (omega (arith, none))
-
-    same_last : (o : Option (Option (List ℕ))) → o ≡ option_or o None
-    same_last None = refl
-    same_last (Some x) = refl
-
-    of : (b : Bool) → length (cond b (e.1 ∷ values_under q es) (values_under q es)) ≤ 1 → (length (values_under q es) ≤ 1 → values_under q es ≡ held (unwrap_or (last_change q (puts es)) None))
-        → cond b (e.1 ∷ values_under q es) (values_under q es) ≡ held (unwrap_or (option_or (last_change q (puts es)) (if b then Some (Some e.1) else None)) None)
-    of true few again =
-        let none : values_under q es ≡ [] = empty_of (values_under q es) (omega (arith, few)) in
-        ap (λ (l : List (List ℕ)). e.1 ∷ l) none ∙ ap (λ (o : Option (Option (List ℕ))). held (unwrap_or (option_or o (Some (Some e.1))) None)) (sym (last_none q es none))
-    of false few again = again few ∙ ap (λ (o : Option (Option (List ℕ))). held (unwrap_or o None)) (same_last (last_change q (puts es)))
-
-values_all : (es : List Entry) → ((q : List ℕ) → length (values_under q es) ≤ 1) → AreValues es (after (puts es) nothing)
-values_all es few = record {
-  are = λ q. values_put q es (few q) ∙ ap held (ap (unwrap_or (last_change q (puts es))) (sym (get-empty {X = List ℕ} (slice_cmp nat_cmp) q)) ∙ sym (get-after (puts es) nothing q));
-}
-
-some_few : (o : Option ℕ) → one_if_some o ≤ 1
-some_few None = omega arith
-some_few (Some at) = omega arith
-
 mark_few : (taken : List Bool) (i : ℕ) → taken_times taken i ≤ 1
 mark_few taken i = elim (get_or taken (i - 3) false) as (λ b. cond b 1 0 ≤ 1) [ true ↦ omega arith | false ↦ omega arith ]
 
-pub read_all : (ks : List Kind) (read : List StringAt) (s : ReadState) (taken : List Bool) → IsReadingOf ks read s taken → without_places read ≡ strings_of ks → AreAllTaken ks taken → Each IsKind ks → 3 + length ks ≤ 2 ^ 31 → IsDone ks (after s.changes nothing)
-read_all ks read s taken r strings all are count = record {
+pub read_all : (ks : List Kind) (read : List StringAt) (s : List EntryAt) (taken : List Bool) (m : Content) (places : PagePlaces) → IsReadingOf ks read s taken → without_places read ≡ strings_of ks → AreAllTaken ks taken → Each IsKind ks → 3 + length ks ≤ 2 ^ 31
+    → IsMapOf s m places → IsDone ks m
+read_all ks read s taken m places r strings all are count map_ = record {
   are = are;
   count = count;
-  is = subst (λ (ws : List Change). IsLoose ks (after ws nothing) 0 [] []) (sym r.changes) (record {
+  is = record {
     placed = r.placed;
     strings = sym strings ∙ r.strings;
     items = r.items;
     stand = r.stand;
     chain = (refl, refl);
     long = λ i low. of i low (times i (chains_of r.placed)) refl;
-    values = values_all (entries_of r.placed) (λ q. let c = r.counts q in let f = some_few (get s.places q) in omega (arith, c, f));
-  });
+    values = subst (λ (es : List Entry). AreValues es m) r.entries map_.values;
+  };
 }
   where
     of : (i : ℕ) → 3 ≤ i → (n : ℕ) → times i (chains_of r.placed) ≡ n → times i (chains_of r.placed) + 0 ≡ one_if_long (kind_of_page ks i)
@@ -339,47 +242,64 @@ read_all ks read s taken r strings all are count = record {
         let f = mark_few taken i in
         omega (arith, l, t, f, is)
 
+-- where pages hold a map, its entries are those that were read
+all_placed : (ks : List Kind) (read : List StringAt) (s : List EntryAt) (taken : List Bool) (m : Content) → (r : IsReadingOf ks read s taken) → without_places read ≡ strings_of ks → (l : IsLoose ks m 0 [] []) → l.placed ≡ r.placed
+all_placed ks read s taken m r strings l =
+    let b = begins ks r.placed l.placed [] r.items r.stand l.items l.stand (sym l.strings ∙ sym strings ∙ r.strings ∙ sym (append-nil (bytes_of r.placed))) in
+    of b.more b.bytes b.is
+  where
+    of : (more : List Placed) → bytes_of more ≡ [] → l.placed ≡ r.placed ++ more → l.placed ≡ r.placed
+    of [] none is = is ∙ append-nil r.placed
+    of (q ∷ more) none is = absurd (cc none)
+
 -- a long page is left that no entry has
-pub read_left : (ks : List Kind) (read : List StringAt) (s : ReadState) (taken : List Bool) → IsReadingOf ks read s taken → without_places read ≡ strings_of ks → IsOneLeft ks taken → IsNoLayout ks
+pub read_left : (ks : List Kind) (read : List StringAt) (s : List EntryAt) (taken : List Bool) → IsReadingOf ks read s taken → without_places read ≡ strings_of ks → IsOneLeft ks taken → IsNoLayout ks
 read_left ks read s taken r strings left = record { none = λ m layout. of m (loosened ks m layout) }
   where
     of : (m : Content) → IsLoose ks m 0 [] [] → ⊥
     of m l =
-        let b = begins ks r.placed l.placed [] r.items r.stand l.items l.stand (sym l.strings ∙ sym strings ∙ r.strings ∙ sym (append-nil (bytes_of r.placed))) in
-        all b.more b.bytes b.is
-      where
-        all : (more : List Placed) → bytes_of more ≡ [] → l.placed ≡ r.placed ++ more → ⊥
-        all [] none is =
-            let e = l.long left.page left.low in
-            let t = r.takes left.page left.low in
-            let p = ap (λ (x : List Placed). times left.page (chains_of x)) (is ∙ append-nil r.placed) in
-            let a = left.long in
-            let z = left.left in
-            omega (arith, e, t, p, a, z)
-        all (q ∷ more) none is = cc none
+        let e = l.long left.page left.low in
+        let t = r.takes left.page left.low in
+        let p = ap (λ (x : List Placed). times left.page (chains_of x)) (all_placed ks read s taken m r strings l) in
+        let a = left.long in
+        let z = left.left in
+        omega (arith, e, t, p, a, z)
+
+-- two entries have one key
+pub read_twice : (ks : List Kind) (read : List StringAt) (s : List EntryAt) (taken : List Bool) → IsReadingOf ks read s taken → without_places read ≡ strings_of ks → HasKeyTwice s → IsNoLayout ks
+read_twice ks read s taken r strings two = record { none = λ m layout. of m (loosened ks m layout) }
+  where
+    of : (m : Content) → IsLoose ks m 0 [] [] → ⊥
+    of m l =
+        let v = ap (λ (es : List Entry). length (values_under two.key es)) (r.entries ∙ ap entries_of (sym (all_placed ks read s taken m r strings l))) ∙ ap (λ (vs : List (List ℕ)). length vs) (l.values.are two.key) in
+        let h = held_few (get m two.key) in
+        let t = two.twice in
+        omega (arith, v, h, t)
 
 -- each key that stands on a page has its place
-pub places_cover : (ks : List Kind) (s : ReadState) (taken : List Bool) → IsReadingOf ks (strings_before ks (length ks)) s taken → HasPlaces ks s.places
-places_cover ks s taken r = record { covers = λ at key h. of at key h }
+pub places_cover : (ks : List Kind) (s : List EntryAt) (taken : List Bool) (m : Content) (places : PagePlaces) → IsReadingOf ks (strings_before ks (length ks)) s taken → IsMapOf s m places → HasPlaces ks places
+places_cover ks s taken m places r map_ = record { covers = λ at key h. of at key h }
   where
-    of : (at : ℕ) (key : List ℕ) → HasKeyAt ks at key → get s.places key ≡ Some at
+    of : (at : ℕ) (key : List ℕ) → HasKeyAt ks at key → get places key ≡ Some at
     of at key h =
         let on : strings_at ks at ≡ h.strings = ap (λ (k : Kind). strings_of (k ∷ [])) h.kind ∙ append-nil h.strings in
         let string_is = ap (λ (l : List (List ℕ)). get_or l h.number []) on in
         let w = h.is.within in
         let there = has_string ks (length ks) at h.number h.within (let e = ap (λ (l : List (List ℕ)). length l) on in omega (arith, e, w)) in
-        ap (get s.places) (sym h.is.is ∙ ap string_key (sym string_is)) ∙ r.found at (get_or (strings_at ks at) h.number []) there
+        let keyed = has_key (strings_before ks (length ks)) at (get_or (strings_at ks at) h.number []) there in
+        let entry = key_of at (string_key (get_or (strings_at ks at) h.number [])) s (subst (λ (l : List KeyAt). Contains l (at, string_key (get_or (strings_at ks at) h.number []))) (sym r.keys) keyed) in
+        ap (get places) (sym h.is.is ∙ ap string_key (sym string_is)) ∙ map_.covers at (string_key (get_or (strings_at ks at) h.number []), entry.0) entry.1
 
 -- ---- the strings of one page
 
 -- With those of this page, so many were read.
-pub record ReadsPart (ks : List Kind) (at : ℕ) (s : ReadState) (taken : List Bool) (ss : List (List ℕ)) (t : ReadState) (now : List Bool) : Type 0 where
+pub record ReadsPart (ks : List Kind) (at : ℕ) (s : List EntryAt) (taken : List Bool) (ss : List (List ℕ)) (t : List EntryAt) (now : List Bool) : Type 0 where
   pub part : (read : List StringAt) → IsReadingOf ks read s taken → IsReadingOf ks (read ++ strings_of_page at ss) t now
 
-pub part_none : (ks : List Kind) (at : ℕ) (s : ReadState) (taken : List Bool) → ReadsPart ks at s taken [] s taken
+pub part_none : (ks : List Kind) (at : ℕ) (s : List EntryAt) (taken : List Bool) → ReadsPart ks at s taken [] s taken
 part_none ks at s taken = record { part = λ read r. subst (λ (l : List StringAt). IsReadingOf ks l s taken) (sym (append-nil read)) r }
 
-pub part_more : (ks : List Kind) (at : ℕ) (s t u : ReadState) (old mid new : List Bool) (ss more : List (List ℕ)) (string : List ℕ) → ReadsPart ks at s old ss t mid
+pub part_more : (ks : List Kind) (at : ℕ) (s t u : List EntryAt) (old mid new : List Bool) (ss more : List (List ℕ)) (string : List ℕ) → ReadsPart ks at s old ss t mid
     → ((read : List StringAt) → IsReadingOf ks read t mid → IsReadingOf ks (read ++ (at, string) ∷ []) u new) → more ≡ ss ++ string ∷ [] → ReadsPart ks at s old more u new
 part_more ks at s t u old mid new ss more string part step is = record {
   part = λ read r. subst (λ (l : List StringAt). IsReadingOf ks l u new)
@@ -387,7 +307,7 @@ part_more ks at s t u old mid new ss more string part step is = record {
 }
 
 -- one of the strings is refused, so all of them are
-pub part_refused : (ks : List Kind) (at : ℕ) (s t : ReadState) (old mid : List Bool) (ss all behind_ : List (List ℕ)) (string : List ℕ) → ReadsPart ks at s old ss t mid
+pub part_refused : (ks : List Kind) (at : ℕ) (s t : List EntryAt) (old mid : List Bool) (ss all behind_ : List (List ℕ)) (string : List ℕ) → ReadsPart ks at s old ss t mid
     → ((read : List StringAt) → IsReadingOf ks read t mid → (rest : List (List ℕ)) → strings_of ks ≡ without_places (read ++ (at, string) ∷ []) ++ rest → IsNoLayout ks) → all ≡ ss ++ string ∷ behind_
     → (read : List StringAt) → IsReadingOf ks read s old → (rest : List (List ℕ)) → strings_of ks ≡ without_places (read ++ strings_of_page at all) ++ rest → IsNoLayout ks
 part_refused ks at s t old mid ss all behind_ string part step is read r rest strings =
@@ -400,22 +320,6 @@ part_refused ks at s t old mid ss all behind_ string part step is read r rest st
         append_assoc a (b ++ x ∷ c) d ∙ ap (λ (l : List (List ℕ)). a ++ l) (append_assoc b (x ∷ c) d) ∙ sym (append_assoc a b (x ∷ (c ++ d))) ∙ sym (append_assoc (a ++ b) (x ∷ []) (c ++ d))
 
 -- ---- what the code finds
-
-some_one : (o : Option ℕ) → IsSome o → one_if_some o ≡ 1
-some_one None some = absurd (false≢true some)
-some_one (Some at) some = refl
-
--- an entry was added, or its key was read before
-pub added_or : {E : Type 0} (ks : List Kind) (read : List StringAt) (s t : ReadState) (old new : List Bool) (at : ℕ) (string : List ℕ) (item : StringItem) (key value : List ℕ) (result : Result Bool E)
-    → IsReadingOf ks read s old → IsStringItem item → item_bytes item ≡ string → HasEntry ks old new item (key, value) → IfOk result (λ is_new. is_new ≡ true → get s.places key ≡ None)
-    → IfOk result (λ is_new. is_new ≡ true → t ≡ record { places = insert s.places key at; changes = s.changes ++ (key, Some value) ∷ [] }) → IfOk result (λ is_new. is_new ≡ false → IsSome (get s.places key))
-    → IfOk result (λ is_read. IsReadOr is_read ks read ((at, string) ∷ []) t new)
-added_or ks read s t old new at string item key value (Err e) r good bytes has first added again = tt
-added_or ks read s t old new at string item key value (Ok true) r good bytes has first added again =
-    let is = added refl in
-    read_more ks read s t old new at string item (key, value) r good bytes has (first refl) (ap (λ (x : ReadState). x.places) is) (ap (λ (x : ReadState). x.changes) is)
-added_or ks read s t old new at string item key value (Ok false) r good bytes has first added again =
-    λ rest strings. no_key ks read s old at string rest item new (key, value) r good bytes has (some_one (get s.places key) (again refl)) strings
 
 pub page_strings : (ks : List Kind) (at : ℕ) (k : Kind) (page : List (List ℕ)) → k ≡ get_or ks at Free → k ≡ Slotted page → strings_at ks at ≡ page
 page_strings ks at k page at_is is = ap (λ (x : Kind). strings_of (x ∷ [])) (sym at_is ∙ is) ∙ append-nil page
@@ -445,17 +349,36 @@ no_marks taken n is i = ap (λ (l : List Bool). taken_times l i) is ∙ ap mark 
     none (suc n) (suc j) = none n j
 
 -- a page is refused, and so are all
-pub pages_refused : (ks : List Kind) (at : ℕ) (found : Bool) (s t : ReadState) (old new : List Bool) → at < length ks → IsReadingOf ks (strings_before ks at) s old
+pub pages_refused : (ks : List Kind) (at : ℕ) (found : Bool) (s t : List EntryAt) (old new : List Bool) → at < length ks → IsReadingOf ks (strings_before ks at) s old
     → ((read : List StringAt) → IsReadingOf ks read s old → IsReadOr found ks read (strings_of_page at (strings_at ks at)) t new) → found ≡ false → IsNoLayout ks
 pages_refused ks at found s t old new within r step no_ =
     subst (λ (b : Bool). IsReadOr b ks (strings_before ks at) (strings_of_page at (strings_at ks at)) t new) no_ (step (strings_before ks at) r) (strings_of (drop (suc at) ks)) (sym (strings_to ks (suc at) within))
 
+-- a page more was read
+pub page_read : (ks : List Kind) (at next : ℕ) (found : Bool) (s t : List EntryAt) (old new : List Bool) → next ≡ suc at → IsReadingOf ks (strings_before ks at) s old
+    → ((read : List StringAt) → IsReadingOf ks read s old → IsReadOr found ks read (strings_of_page at (strings_at ks at)) t new) → found ≡ true → IsReadingOf ks (strings_before ks next) t new
+page_read ks at next found s t old new is r step yes_ =
+    subst (λ (n : ℕ). IsReadingOf ks (strings_before ks n) t new) (sym is) (subst (λ (b : Bool). IsReadOr b ks (strings_before ks at) (strings_of_page at (strings_at ks at)) t new) yes_ (step (strings_before ks at) r))
+
+-- marks that are given back stand as they are
+pub given_back : (n : ℕ) (marks rest : List Bool) → length marks ≡ n → take n (marks ++ rest) ≡ marks
+given_back zero [] rest is = refl
+given_back zero (m ∷ marks) rest is = absurd (omega (arith, is))
+given_back (suc n) [] rest is = absurd (omega (arith, is))
+given_back (suc n) (m ∷ marks) rest is = ap (λ (l : List Bool). m ∷ l) (given_back n marks rest (omega (arith, is)))
+
 -- all pages were read
-pub all_read : (ks : List Kind) (at : ℕ) (s : ReadState) (taken : List Bool) → IsReadingOf ks (strings_before ks at) s taken → at ≡ length ks → IsReadingOf ks (strings_before ks (length ks)) s taken
+pub all_read : (ks : List Kind) (at : ℕ) (s : List EntryAt) (taken : List Bool) → IsReadingOf ks (strings_before ks at) s taken → at ≡ length ks → IsReadingOf ks (strings_before ks (length ks)) s taken
 all_read ks at s taken r is = subst (λ (n : ℕ). IsReadingOf ks (strings_before ks n) s taken) is r
 
-pub map_left : (ks : List Kind) (at : ℕ) (s : ReadState) (taken now : List Bool) → IsReadingOf ks (strings_before ks at) s taken → at ≡ length ks → now ≡ taken → IsOneLeft ks now → IsNoLayout ks
+pub map_left : (ks : List Kind) (at : ℕ) (s : List EntryAt) (taken now : List Bool) → IsReadingOf ks (strings_before ks at) s taken → at ≡ length ks → now ≡ taken → IsOneLeft ks now → IsNoLayout ks
 map_left ks at s taken now r ends is left = read_left ks (strings_before ks (length ks)) s taken (all_read ks at s taken r ends) (strings_all ks) (subst (IsOneLeft ks) is left)
 
-pub map_done : (ks : List Kind) (at : ℕ) (s : ReadState) (taken now : List Bool) → IsReadingOf ks (strings_before ks at) s taken → at ≡ length ks → now ≡ taken → AreAllTaken ks now → Each IsKind ks → 3 + length ks ≤ 2 ^ 31 → IsDone ks (after s.changes nothing)
-map_done ks at s taken now r ends is all are count = read_all ks (strings_before ks (length ks)) s taken (all_read ks at s taken r ends) (strings_all ks) (subst (AreAllTaken ks) is all) are count
+pub map_done : (ks : List Kind) (at : ℕ) (s : List EntryAt) (taken now : List Bool) (found : Option (Content × PagePlaces)) → IsReadingOf ks (strings_before ks at) s taken → at ≡ length ks → now ≡ taken → AreAllTaken ks now → Each IsKind ks → 3 + length ks ≤ 2 ^ 31
+    → IsBuiltOr found s → IsMapOr found ks
+map_done ks at s taken now (Some found) r ends is all are count map_ =
+    let done = all_read ks at s taken r ends in (
+      read_all ks (strings_before ks (length ks)) s taken found.0 found.1 done (strings_all ks) (subst (AreAllTaken ks) is all) are count map_,
+      places_cover ks s taken found.0 found.1 done map_,
+    )
+map_done ks at s taken now None r ends is all are count two = read_twice ks (strings_before ks (length ks)) s taken (all_read ks at s taken r ends) (strings_all ks) two

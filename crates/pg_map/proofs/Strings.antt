@@ -5,7 +5,10 @@ use Rattle.std.proofs.lemmas.Bool.{cases_lt}
 use Rattle.std.proofs.lemmas.List.Elements.{Contains-append_left, Contains-append_right, Contains-from_at}
 use Rattle.pg_map.specs.Kinds.{Kind, Free, strings_of}
 use Rattle.pg_map.specs.laws.MapReading.{strings-cons}
-use Rattle.pg_map.specs.Readings.{StringAt, strings_of_page, strings_at, strings_before, without_places}
+use Rattle.pg_map.specs.PageStrings.{string_key}
+use Rattle.pg_map.specs.ReadEntries.{EntryAt}
+use Rattle.pg_map.specs.Readings.{StringAt, strings_of_page, strings_at, strings_before, without_places, KeyAt, entry_keys, keys_read}
+use Rattle.pg_map.proofs.BuiltMaps.{in_none, in_first, in_rest, in_either}
 
 pub without-at_place : (at : ℕ) (ss : List (List ℕ)) → without_places (strings_of_page at ss) ≡ ss
 without-at_place at [] = refl
@@ -60,3 +63,22 @@ has_string kinds (suc n) at i less within = of (λ before. has_string kinds n at
     of first (inl before) = Contains-append_left (strings_before kinds n) (strings_of_page n (strings_at kinds n)) (at, get_or (strings_at kinds at) i []) (first before)
     of first (inr here_) = Contains-append_right (strings_before kinds n) (strings_of_page n (strings_at kinds n)) (at, get_or (strings_at kinds at) i [])
         (subst (λ (k : ℕ). Contains (strings_of_page k (strings_at kinds k)) (at, get_or (strings_at kinds at) i [])) here_ (at_place_has at (strings_at kinds at) i within))
+
+-- ---- keys and their places
+
+pub entry_keys-append : (a b : List EntryAt) → entry_keys (a ++ b) ≡ entry_keys a ++ entry_keys b
+entry_keys-append [] b = refl
+entry_keys-append (e ∷ a) b = ap (λ (x : List KeyAt). (e.0, e.1.0) ∷ x) (entry_keys-append a b)
+
+pub keys_read-append : (a b : List StringAt) → keys_read (a ++ b) ≡ keys_read a ++ keys_read b
+keys_read-append [] b = refl
+keys_read-append (l ∷ a) b = ap (λ (x : List KeyAt). (l.0, string_key l.1) ∷ x) (keys_read-append a b)
+
+pub has_key : (read : List StringAt) (at : ℕ) (string : List ℕ) → Contains read (at, string) → Contains (keys_read read) (at, string_key string)
+has_key [] at string has = absurd (in_none (at, string) has)
+has_key (l ∷ read) at string has = ⊎_elim (λ first. subst (λ (x : StringAt). Contains (keys_read (l ∷ read)) (x.0, string_key x.1)) first (in_first (l.0, string_key l.1) (keys_read read)))
+    (λ more. in_rest (l.0, string_key l.1) (at, string_key string) (keys_read read) (has_key read at string more)) (in_either l (at, string) read has)
+
+pub key_of : (at : ℕ) (key : List ℕ) (s : List EntryAt) → Contains (entry_keys s) (at, key) → (value : List ℕ) × Contains s (at, (key, value))
+key_of at key [] has = absurd (in_none (at, key) has)
+key_of at key (e ∷ s) has = ⊎_elim (λ first. (e.1.1, subst (λ (x : KeyAt). Contains (e ∷ s) (x.0, (x.1, e.1.1))) first (in_first e s))) (λ more. let r = key_of at key s more in (r.0, in_rest e (at, (key, r.0)) s r.1)) (in_either (e.0, e.1.0) (at, key) (entry_keys s) has)

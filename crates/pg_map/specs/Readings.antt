@@ -1,25 +1,15 @@
 -- What was read so far of the strings of slotted pages, and what it leads to.
-use Rattle.std.specs.Prelude.{◌≡◌, ℕ, ◌≤◌, Bool, true, false, List, [], ◌∷◌, ◌++◌, zero, suc, length, map, get_or, Option, None, Some, codes, refl}
-use Rattle.std.specs.List.{Contains}
+use Rattle.std.specs.Prelude.{◌≡◌, ℕ, ◌≤◌, Bool, true, false, List, [], ◌∷◌, ◌++◌, zero, suc, map, get_or, Option, None, Some, codes, refl}
 use Rattle.std.specs.FinMap.{get}
-use Rattle.std.specs.Coded.{Coded, code_by, coded_list, coded_option, coded_ℕ, coded×}
-use Rattle.ct_keep.specs.Content.{Content, Change}
+use Rattle.ct_keep.specs.Content.{Content}
 use Rattle.pg_map.specs.ChainReading.{taken_times, AreTaken, MayTake}
 use Rattle.pg_map.specs.Holding.{kind_of_page, Placed, StandsFor, times, one_if_long, IsLayout, chains_of, bytes_of, entries_of}
 use Rattle.pg_map.specs.Kinds.{Each, Kind, Free, Slotted, Long, StringItem, IsStringItem, strings_of, Entry}
-use Rattle.pg_map.specs.Loose.{values_under, Stand}
-use Rattle.pg_map.specs.MapReading.{puts}
+use Rattle.pg_map.specs.Loose.{Stand}
 use Rattle.pg_map.specs.PageStrings.{string_key}
-use Rattle.pg_map.specs.Places.{PagePlaces, place_code}
+use Rattle.pg_map.specs.Places.{PagePlaces}
+use Rattle.pg_map.specs.ReadEntries.{EntryAt, without_pages}
 use Rattle.pg_map.specs.Done.{IsDone, HasKeyAt}
-
--- the place of each key, and the changes that put the entries
-pub record ReadState : Type 0 where
-  pub places : PagePlaces
-  pub changes : List Change
-
-abbrev pub read_code : Coded ReadState
-read_code = code_by (PagePlaces × List Change) (coded× place_code (coded_list (coded× (coded_list coded_ℕ) (coded_option (coded_list coded_ℕ))))) (λ c. (c.places, c.changes)) (λ p. record { places = p.0; changes = p.1 }) (λ _. refl)
 
 -- a string, and the place of its page
 abbrev pub StringAt : Type 0
@@ -40,27 +30,32 @@ strings_before kinds (suc n) = strings_before kinds n ++ strings_of_page n (stri
 abbrev pub without_places : List StringAt → List (List ℕ)
 without_places read = map (λ l. l.1) read
 
-abbrev pub one_if_some : Option ℕ → ℕ
-one_if_some None = 0
-one_if_some (Some at) = 1
+-- a key, and the place of its page
+abbrev pub KeyAt : Type 0
+KeyAt = ℕ × List ℕ
 
--- These strings are entries of different keys, which stand over the long pages that were taken.
-pub record IsReadingOf (kinds : List Kind) (read : List StringAt) (s : ReadState) (taken : List Bool) : Type 0 where
+abbrev pub entry_keys : List EntryAt → List KeyAt
+entry_keys s = map {B = ℕ × List ℕ} (λ (e : EntryAt). (e.0, e.1.0)) s
+
+abbrev pub keys_read : List StringAt → List KeyAt
+keys_read read = map {B = ℕ × List ℕ} (λ (l : StringAt). (l.0, string_key l.1)) read
+
+-- These strings are these entries, which stand over the long pages that were taken.
+pub record IsReadingOf (kinds : List Kind) (read : List StringAt) (s : List EntryAt) (taken : List Bool) : Type 0 where
   pub placed : List Placed
   pub strings : without_places read ≡ bytes_of placed
   pub items : Each (λ (p : Placed). IsStringItem p.item) placed
   pub stand : Stand kinds placed
   pub takes : (i : ℕ) → 3 ≤ i → times i (chains_of placed) ≡ taken_times taken i
-  pub changes : s.changes ≡ puts (entries_of placed)
-  pub found : (at : ℕ) (string : List ℕ) → Contains read (at, string) → get s.places (string_key string) ≡ Some at
-  pub counts : (key : List ℕ) → length (values_under key (entries_of placed)) ≡ one_if_some (get s.places key)
+  pub entries : without_pages s ≡ entries_of placed
+  pub keys : entry_keys s ≡ keys_read read
 
 -- The pages hold no map.
 pub record IsNoLayout (kinds : List Kind) : Type 0 where
   pub none : (m : Content) → IsLayout kinds m → ⊥
 
 -- more strings were read, or pages that have these strings hold no map
-abbrev pub IsReadOr : Bool → List Kind → List StringAt → List StringAt → ReadState → List Bool → Type 0
+abbrev pub IsReadOr : Bool → List Kind → List StringAt → List StringAt → List EntryAt → List Bool → Type 0
 IsReadOr true kinds read more s taken = IsReadingOf kinds (read ++ more) s taken
 IsReadOr false kinds read more s taken = (rest : List (List ℕ)) → strings_of kinds ≡ without_places (read ++ more) ++ rest → IsNoLayout kinds
 
@@ -106,6 +101,9 @@ free_to kinds zero = []
 free_to kinds (suc n) = free_to kinds n ++ one_free (get_or kinds n Free) n
 
 -- ---- computed examples
+two_keys : entry_keys ((0, (codes "k", codes "v")) ∷ (3, (codes "l", codes "w")) ∷ []) ≡ (0, codes "k") ∷ (3, codes "l") ∷ []
+two_keys = refl
+
 two_pages : strings_before (Free ∷ Slotted (codes "a" ∷ codes "b" ∷ []) ∷ []) 2 ≡ (1, codes "a") ∷ (1, codes "b") ∷ []
 two_pages = refl
 

@@ -1,6 +1,7 @@
 //! The map that the pages of the store file hold: what pages and strings mean, and the map that is read from them.
 #![tactic(auto)]
 
+mod building;
 mod chain_reading;
 mod item_reading;
 mod items;
