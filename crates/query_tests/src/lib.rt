@@ -5,3 +5,5 @@
 mod query_texts;
 #[cfg(test)]
 mod reductions;
+#[cfg(test)]
+mod stored;
