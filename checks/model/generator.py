@@ -521,7 +521,7 @@ class Maker:
         contains = ["CONTAINS", "(", column.name, ",", query, *([",", label] if has_label else []), ")", ">", above]
         conditions = [contains, *([self.condition(table)] if self.chance(0.25) else [])]
         self.random.shuffle(conditions)
-        return ["SELECT", *self.shown(table, label), "FROM", name, *self.joined("WHERE", conditions)]
+        return ["SELECT", *self.shown(table, label), "FROM", name, *self.joined("WHERE", conditions), *self.ordered(table, label)]
 
     def select_in_catalogue(self) -> list[str]:
         """Returns a SELECT with CATSEARCH over a catalogue, where there is one, most of the time by words of its rows."""
@@ -542,7 +542,19 @@ class Maker:
         catsearch = ["CATSEARCH", "(", column.name, ",", quoted(query), ",", structured, ")", ">", above]
         conditions = [catsearch, *([self.condition(table)] if self.chance(0.15) else [])]
         self.random.shuffle(conditions)
-        return ["SELECT", *self.shown(table, None), "FROM", name, *self.joined("WHERE", conditions)]
+        return ["SELECT", *self.shown(table, None), "FROM", name, *self.joined("WHERE", conditions), *self.ordered(table, None)]
+
+    def ordered(self, table: Table, label: str | None) -> list[str]:
+        """Returns the order of a SELECT, if any: by one to three columns, which seldom are CLOBs, or by the score of this label."""
+        if not self.chance(0.3):
+            return []
+        short = [column.name for column in table.columns if column.sort != "CLOB"]
+        items = [[self.column(table).name if self.goes_wrong() else self.one_of(short)] for _ in range(self.random.choice([1, 1, 2, 3]))]
+        if (label is not None and self.chance(0.5)) or self.goes_wrong():
+            score = ["SCORE", "(", self.one_of(NUMBERS) if label is None or self.goes_wrong() else label, ")"]
+            items.insert(self.random.randrange(len(items) + 1), score)
+        words = ["ORDER", "BY", *self.listed([[*item, *self.one_of(["", "", "ASC", "DESC", "DESC"]).split()] for item in items])[1:-1]]
+        return self.damaged(words) if self.chance(0.02) else words
 
     def structured(self, table: Table, index: Index | None) -> str:
         """Returns a structured query, most of the time of columns that the catalogue has in its sub-indexes, and that many rows meet."""
@@ -586,12 +598,13 @@ class Maker:
 
     def plain_select(self) -> list[str]:
         name, table = self.table()
-        return ["SELECT", *self.shown(table, None), "FROM", name, *self.where(table)]
+        return ["SELECT", *self.shown(table, None), "FROM", name, *self.where(table), *self.ordered(table, None)]
 
     def view(self) -> list[str]:
         shown = self.one_of(["id", "SCORE ( 1 )", "nope"] if self.goes_wrong() else ["*", "*", "COUNT ( * )"]).split()
         where = ["WHERE", "id", "=", "1"] if self.goes_wrong() else []
-        return ["SELECT", *shown, "FROM", "CTX_USER_PENDING", *where]
+        order = ["ORDER", "BY", "id"] if self.goes_wrong() else []
+        return ["SELECT", *shown, "FROM", "CTX_USER_PENDING", *where, *order]
 
     def call(self, package: str, procedure: str, arguments: list[str]) -> list[str]:
         if self.goes_wrong():

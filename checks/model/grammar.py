@@ -40,6 +40,7 @@ from statements import (
     DropTable,
     Insert,
     Item,
+    OrderItem,
     Score,
     Search,
     Select,
@@ -247,15 +248,30 @@ class Parser:
         self.expect("FROM")
         table = self.name()
         predicates = self.list_of(self.predicate, "AND") if self.takes("WHERE") else ()
+        orders = self.orders()
         queries = sum(not isinstance(predicate, Condition) for predicate in predicates)
         if queries > 1:
             raise NotUnderstood
         if table in VIEWS:
             self.need(table.upper())
-            return SelectPending(items, predicates != ())
+            return SelectPending(items, bool(predicates or orders))
         if queries == 0:
             self.need("PLAIN-SELECT")
-        return Select(items, table, predicates)
+        return Select(items, table, predicates, orders)
+
+    def orders(self) -> tuple[OrderItem, ...]:
+        if not self.takes("ORDER"):
+            return ()
+        self.need("ORDER BY")
+        self.expect("BY")
+        return self.list_of(self.order)
+
+    def order(self) -> OrderItem:
+        item = self.item()
+        is_descending = self.takes("DESC")
+        if not is_descending:
+            self.takes("ASC")
+        return OrderItem(item, is_descending)
 
     def select_list(self) -> SelectList:
         if self.takes("*"):

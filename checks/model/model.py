@@ -36,6 +36,7 @@ BUILT = frozenset({
     "PLAIN-SELECT",  # a SELECT without CONTAINS
     "STAR",  # SELECT *
     "COUNT",  # SELECT COUNT(*)
+    "ORDER BY",  # the order of a SELECT
     "CTX_USER_PENDING",
     "PREFERENCES",  # CREATE_PREFERENCE, SET_ATTRIBUTE, and POLICY_TOKENS with a preference
     "STOPLISTS",  # CREATE_STOPLIST, ADD_STOPWORD

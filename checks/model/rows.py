@@ -512,6 +512,27 @@ EXEC CTX_DDL.ADD_SPECIAL_SECTION('g','SENTENCE');
     + count("green", 0)
     + SYNC
     + count("green", 100),
+    "the order of a SELECT": TABLE
+    + """\
+INSERT INTO docs VALUES (1,'red',5);
+1 row created.
+INSERT INTO docs VALUES (2,'red red',5);
+1 row created.
+INSERT INTO docs VALUES (3,'red',7);
+1 row created.
+CREATE INDEX di ON docs(body) INDEXTYPE IS CONTEXT;
+Index created.
+SELECT id FROM docs ORDER BY price DESC;
+3
+1
+2
+SELECT id FROM docs WHERE CONTAINS(body,'red',1) > 0 ORDER BY SCORE(1) DESC, price DESC;
+2
+3
+1
+SELECT id FROM docs ORDER BY SCORE(1);
+E13: wrong type or number of values
+""",
     "terms that are reached from each other": """\
 EXEC CTX_THES.CREATE_THESAURUS('th');
 [ok]

@@ -480,6 +480,16 @@ class Catsearch:
 
 Search = Contains | Catsearch
 Item = str | Score
+
+
+@dataclass(frozen=True)
+class OrderItem:
+    """What a SELECT orders its rows by: a column, or the score."""
+
+    item: Item
+    is_descending: bool
+
+
 SelectList = Literal["*", "COUNT(*)"] | tuple[Item, ...]
 
 
@@ -488,6 +498,7 @@ class Select(Statement):
     shown: SelectList
     table: str
     predicates: tuple[Condition | Search, ...]
+    orders: tuple[OrderItem, ...] = ()
 
     @property
     def items(self) -> tuple[Item, ...]:
@@ -503,7 +514,11 @@ class Select(Statement):
 
     @property
     def scores(self) -> list[Score]:
-        return [item for item in self.items if isinstance(item, Score)]
+        return [item for item in (*self.items, *self.sorted_by) if isinstance(item, Score)]
+
+    @property
+    def sorted_by(self) -> list[Item]:
+        return [order.item for order in self.orders]
 
     def index(self, state: State) -> Index | None:
         """Returns the index that is asked, where it is there."""
@@ -517,18 +532,34 @@ class Select(Statement):
             yield unknown(self.table)
             return
         names = [item for item in self.items if isinstance(item, str)]
-        yield from unknown_columns(table, [*names, *(predicate.column for predicate in self.predicates)])
+        sorted_by = [item for item in self.sorted_by if isinstance(item, str)]
+        yield from unknown_columns(table, [*names, *(predicate.column for predicate in self.predicates), *sorted_by])
         if self.search is not None and self.index(state) is None:
             yield NO_INDEX
         label = self.search.label if isinstance(self.search, Contains) else None
         if any(item.label != label for item in self.scores):
+            yield WRONG_VALUES
+        if any(column.sort == "CLOB" for column in table.columns if column.name in sorted_by):
             yield WRONG_VALUES
         yield from wrong_conditions(table, self.conditions)
         if self.search is not None:
             yield from self.search.refusals(state, self.index(state))
 
     def found(self, state: State) -> list[Scored]:
-        """Returns the rows to be shown, in their order."""
+        """Returns the rows to be shown, in their order: that of the SELECT itself, where it has one."""
+        found, table = self.met(state), state.tables[self.table]
+        if not self.orders:
+            return found
+        ordered = sorted(found)
+        for order in reversed(self.orders):
+            item = order.item
+            place = None if isinstance(item, Score) else table.names.index(item)
+            # which leaves those of one value as they are
+            ordered.sort(key=lambda row: row[1] if place is None else table.rows[row[0]][place], reverse=order.is_descending)
+        return ordered
+
+    def met(self, state: State) -> list[Scored]:
+        """Returns the rows that meet the predicates: by rising key, or in the order that its search asks for."""
         keys, index = keys_that_meet(state.tables[self.table], self.conditions), self.index(state)
         if self.search is None or index is None:
             return [(key, 0) for key in keys]
@@ -552,10 +583,10 @@ class SelectPending(Statement):
     """A SELECT from the view of the rows that wait."""
 
     shown: SelectList
-    has_predicates: bool
+    has_more: bool  # predicates, or an order
 
     def refusals(self, state: State) -> Refusals:
-        if isinstance(self.shown, tuple) or self.has_predicates:
+        if isinstance(self.shown, tuple) or self.has_more:
             yield WRONG_VALUES
 
     def effect(self, state: State) -> str:
