@@ -1,4 +1,4 @@
--- The catalogue of a bicycle shop: first it is defined how its texts are read, then the index is made, and then it is searched.
+-- The products of a bicycle shop: first it is defined how its texts are read, then the index is made, and then it is searched.
 
 -- Which words are the same. A hyphen doesn't count, so E-Bike and ebike are one word, as 28-622 and 28622 are; nor do accents.
 EXEC CTX_DDL.CREATE_PREFERENCE('shop_lexer', 'BASIC_LEXER');
@@ -51,6 +51,10 @@ SELECT id FROM products WHERE CONTAINS(body, 'velo WITHIN supplier') > 0;
 INSERT INTO products VALUES (30, '<NAME>Lock</NAME> <BRAND>Böhme</BRAND> A lock of steel, 1.5 kg.', 40);
 EXEC CTX_DDL.SYNC_INDEX('shop_index');
 SELECT id, SCORE(1) FROM products WHERE CONTAINS(body, 'lock', 1) > 0;
+
+-- The best match first; and what one would pay, from the cheapest up.
+SELECT id, SCORE(1) FROM products WHERE CONTAINS(body, 'lock', 1) > 0 ORDER BY SCORE(1) DESC;
+SELECT id, price FROM products WHERE CONTAINS(body, 'ebike OR lock') > 0 ORDER BY price;
 
 -- The index has copied its preferences. A stopword that is added now doesn't touch it; an index that is made anew has it.
 EXEC CTX_DDL.ADD_STOPWORD('shop_words', 'city');
