@@ -32,6 +32,8 @@ pub enum Procedure {
     PolicyTokens,
     /// CTX_DDL.SYNC_INDEX.
     SyncIndex,
+    /// CTX_QUERY.RESULT_SET.
+    ResultSet,
     /// One of CTX_DDL that defines something for indexes.
     Define(Definition),
     /// One of CTX_THES.
@@ -39,9 +41,10 @@ pub enum Procedure {
 }
 
 /// All procedures.
-const ALL_PROCEDURES: [Procedure; 14] = [
+const ALL_PROCEDURES: [Procedure; 15] = [
     Procedure::PolicyTokens,
     Procedure::SyncIndex,
+    Procedure::ResultSet,
     Procedure::Define(Definition::CreatePreference),
     Procedure::Define(Definition::SetAttribute),
     Procedure::Define(Definition::CreateStoplist),
@@ -96,6 +99,7 @@ impl Procedure {
         match self {
             Procedure::PolicyTokens => "ctx_doc",
             Procedure::SyncIndex | Procedure::Define(_) => "ctx_ddl",
+            Procedure::ResultSet => "ctx_query",
             Procedure::Thesaurus(_) => "ctx_thes",
         }
     }
@@ -107,6 +111,7 @@ impl Procedure {
         match self {
             Procedure::PolicyTokens => "policy_tokens",
             Procedure::SyncIndex => "sync_index",
+            Procedure::ResultSet => "result_set",
             Procedure::Define(definition) => definition.name(),
             Procedure::Thesaurus(call) => call.name(),
         }

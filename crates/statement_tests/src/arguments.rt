@@ -1,47 +1,75 @@
 //! Arguments and what they ask for.
 
 use ct_base::Memory;
-use db_arguments::{Arguments, file_of, read_arguments};
+use db_arguments::{Asked, Store, file_of, read_arguments};
 use std::alloc::Global;
 
 const LARGEST: u64 = 68_719_476_736;
 
-/// The arguments, and the FILE and the limit that they ask for.
-type Row = (&'static [&'static str], Option<(&'static str, u64)>);
+/// The arguments, and what they ask for: a FILE with a limit, or none with a number of rows, or nothing.
+type Row = (
+    &'static [&'static str],
+    Option<(&'static str, u64)>,
+    Option<u32>,
+);
 
 const ROWS: &[Row] = &[
     // one FILE
-    (&["a.db"], Some(("a.db", LARGEST))),
-    (&["-"], Some(("-", LARGEST))),
-    (&[""], Some(("", LARGEST))),
-    (&["--", "--"], Some(("--", LARGEST))),
-    // the option
-    (&["--limit", "4096", "a.db"], Some(("a.db", 4096))),
-    (&["ä", "--limit=68719476736"], Some(("ä", LARGEST))),
+    (&["a.db"], Some(("a.db", LARGEST)), None),
+    (&["-"], Some(("-", LARGEST)), None),
+    (&[""], Some(("", LARGEST)), None),
+    (&["--", "--"], Some(("--", LARGEST)), None),
+    // the limit
+    (&["--limit", "4096", "a.db"], Some(("a.db", 4096)), None),
+    (&["ä", "--limit=68719476736"], Some(("ä", LARGEST)), None),
     (
         &["--limit=00000000000000005000", "--", "--limit"],
         Some(("--limit", 5000)),
+        None,
     ),
+    // rows
+    (&["--generate", "8"], None, Some(8)),
+    (
+        &["--generate=00000000000000100000", "--"],
+        None,
+        Some(100_000),
+    ),
+    (&["--", "--generate"], Some(("--generate", LARGEST)), None),
     // no FILE, or two
-    (&[], None),
-    (&["--"], None),
-    (&["a", "b"], None),
-    (&["a", "--", "b"], None),
-    // other options, or the option twice
-    (&["--help"], None),
-    (&["-l", "a"], None),
-    (&["--limits=5000", "a"], None),
-    (&["--limit=5000", "a", "--limit", "5000"], None),
+    (&[], None, None),
+    (&["--"], None, None),
+    (&["a", "b"], None, None),
+    (&["a", "--", "b"], None, None),
+    // other options, the beginning of one, or one twice
+    (&["--help"], None, None),
+    (&["-h", "a"], None, None),
+    (&["-l", "a"], None, None),
+    (&["-ä", "a"], None, None),
+    (&["---", "a"], None, None),
+    (&["--=5000", "a"], None, None),
+    (&["--lim=5000", "a"], None, None),
+    (&["--limits=5000", "a"], None, None),
+    (&["--limit=5000", "a", "--limit", "5000"], None, None),
+    (&["--generate=8", "--generate=8"], None, None),
     // values that are no limit; the last but one is 5000 and 2^64
-    (&["a", "--limit"], None),
-    (&["--limit", "--", "a"], None),
-    (&["--limit=", "a"], None),
-    (&["--limit=+5000", "a"], None),
-    (&["--limit=5000 ", "a"], None),
-    (&["--limit=4095", "a"], None),
-    (&["--limit=68719476737", "a"], None),
-    (&["--limit=18446744073709556616", "a"], None),
-    (&["--limit=000000000000000005000", "a"], None),
+    (&["a", "--limit"], None, None),
+    (&["--limit", "--", "a"], None, None),
+    (&["--limit", "-5000", "a"], None, None),
+    (&["--limit", "--limit=5000", "a"], None, None),
+    (&["--limit=", "a"], None, None),
+    (&["--limit", "", "a"], None, None),
+    (&["--limit=+5000", "a"], None, None),
+    (&["--limit=5000 ", "a"], None, None),
+    (&["--limit=4095", "a"], None, None),
+    (&["--limit=68719476737", "a"], None, None),
+    (&["--limit=18446744073709556616", "a"], None, None),
+    (&["--limit=000000000000000005000", "a"], None, None),
+    // rows beside a FILE or a limit, none, and too many
+    (&["--generate=8", "a"], None, None),
+    (&["--generate=8", "--limit=5000"], None, None),
+    (&["--generate=0"], None, None),
+    (&["--generate=100001"], None, None),
+    (&["--generate"], None, None),
 ];
 
 fn owned(alloc: Global, texts: &[&str]) -> Result<Vec<String>, Memory> {
@@ -52,22 +80,34 @@ fn owned(alloc: Global, texts: &[&str]) -> Result<Vec<String>, Memory> {
     Ok(all)
 }
 
-/// Whether the arguments ask for this.
-fn ask_for(arguments: &[String], wanted: Option<(&str, u64)>) -> bool {
-    match wanted {
-        Some((file, limit)) => {
-            read_arguments(arguments) == Some(Arguments { file, limit })
-                && file_of(arguments) == Some(file)
-        }
-        None => read_arguments(arguments).is_none() && file_of(arguments).is_none(),
+/// What is asked for by a FILE with a limit, or by a number of rows.
+fn asked<'a>(store: Option<(&'a str, u64)>, rows: Option<u32>) -> Option<Asked<'a>> {
+    match store {
+        Some((file, limit)) => Some(Asked::Over(Store { file, limit })),
+        None => rows.map(Asked::Rows),
     }
+}
+
+/// Whether the arguments ask for this.
+fn ask_for(
+    alloc: Global,
+    arguments: &[String],
+    store: Option<(&str, u64)>,
+    rows: Option<u32>,
+) -> Result<bool, Memory> {
+    let read = read_arguments(alloc, arguments)? == asked(store, rows);
+    let file = file_of(alloc, arguments)? == store.map(|s| s.0);
+    Ok(read && file)
 }
 
 #[test]
 fn arguments_and_what_they_ask_for(rt: HostRuntime) -> Result<(), Memory> {
-    for (texts, wanted) in ROWS {
+    for (texts, store, rows) in ROWS {
         let arguments = owned(rt.alloc(), texts)?;
-        assert!(rt; ask_for(&arguments, *wanted), "{texts:?}");
+        assert!(rt;
+            ask_for(rt.alloc(), &arguments, *store, *rows)?,
+            "{texts:?}"
+        );
     }
     Ok(())
 }

@@ -301,6 +301,9 @@ const FORMS: &[(&str, Option<&str>)] = &[
     ("EXEC ctx_ddl.add_index('s', 'a, b')", Some("exec")),
     ("EXEC ctx_ddl.add_index('s', a)", None),
     ("EXEC ctx_ddl.drop_index_set('s')", None),
+    ("EXEC Ctx_Query.Result_Set('i', 'q', 'count')", Some("exec")),
+    ("EXEC ctx_query.result_set('i', q, 'count')", None),
+    ("EXEC ctx_ddl.result_set('i', 'q', 'count')", None),
     ("EXEC Ctx_Thes.Create_Thesaurus('t', FALSE)", Some("exec")),
     ("EXEC ctx_thes.create_thesaurus()", Some("exec")),
     (
