@@ -1,6 +1,5 @@
 pub mod Bools
 pub mod RowLists
-pub mod FirstPlaces
 pub mod WordTexts
 pub mod CatalogueEntries
 pub mod Compiled

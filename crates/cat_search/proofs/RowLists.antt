@@ -126,11 +126,6 @@ module _ (test weaker : ℤ → Bool) (implies : (r : ℤ) → test r ≡ true �
       go false is true so rest = omega (arith, rest)
       go false is false so rest = rest
 
--- a test that all pass
-pub all_pass : (rs : List ℤ) → filter (λ r. true) rs ≡ rs
-all_pass [] = refl
-all_pass (r ∷ rs) = ap (λ (l : List ℤ). r ∷ l) (all_pass rs)
-
 -- ---- rows as code holds them
 
 abbrev pub key_cmp : RowKey → RowKey → Ordering

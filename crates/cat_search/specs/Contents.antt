@@ -1,7 +1,6 @@
 -- A content that holds a catalogue, and what calls promise of it.
-use Rattle.std.specs.Prelude.{ℕ, ℤ, ◌≡◌, ◌++◌, ◌||◌, Bool, List, [], map, Some, Result, Vec, IfOk, refl}
+use Rattle.std.specs.Prelude.{ℕ, ℤ, ◌≡◌, ◌++◌, ◌||◌, Bool, List, [], map, Some, Result, IfOk, refl}
 use Rattle.std.specs.Bool.{if◌then◌else◌}
-use Rattle.std.specs.declared.alloc.Global.{Global}
 use Rattle.ct_base.specs.declared.numbers.RowKey.{RowKey}
 use Rattle.ct_keep.specs.Content.{Content}
 use Rattle.ct_keep.specs.KeeperViews.{KeeperView}
@@ -24,7 +23,7 @@ use Rattle.cat_index.specs.Standing.{CatalogueStands}
 use Rattle.cat_walk.specs.Places.{has_place}
 use Rattle.cat_walk.specs.declared.walks.Walk.{Walk}
 use Rattle.cat_walk.specs.Walks.{route_of}
-use Rattle.cat_search.specs.Meeting.{row_words, met_rows, some_meets}
+use Rattle.cat_search.specs.Meeting.{row_words, some_meets}
 use Rattle.cat_search.specs.SubIndexes.{place_row, sub_place}
 use Rattle.cat_search.specs.Words.{may_meet}
 use Rattle.cat_search.specs.Walking.{StopsWhere, row_if}
@@ -48,10 +47,6 @@ abbrev pub ToldCatalogue : {K : Type 0} → (K → KeeperView) → K → List �
 ToldCatalogue view k i c holds =
     (m : Content) (ts : Tables) (x : IndexOf CatalogueBody) → (view k).content ≡ Some m → HoldsCatalogue m ts i x → IsIndexOf c x → holds (table_at ts x.table) x
 
--- What a call gave of them, unless it failed.
-abbrev pub SeesCatalogue : {K T E : Type 0} → (K → KeeperView) → K → List ℕ → Catalogue → Result T E → (Table → IndexOf CatalogueBody → T → Type 0) → Type 0
-SeesCatalogue view old i c result gives = ToldCatalogue view old i c (λ t x. IfOk result (gives t x))
-
 -- what holds of the catalogue that the content holds, where that is told, and where a walk over a sub-index stops at the rows whose words may meet a query
 abbrev pub ToldWalked : {K : Type 0} → (K → KeeperView) → K → Catalogue → List ℕ → ℕ → Flat → Walk → (Table → IndexOf CatalogueBody → Type 0) → Type 0
 ToldWalked view k c stem sub flat walk holds =
@@ -61,10 +56,6 @@ ToldWalked view k c stem sub flat walk holds =
 -- What a call gave of it, unless it failed.
 abbrev pub SeesWalked : {K T E : Type 0} → (K → KeeperView) → K → Catalogue → List ℕ → ℕ → Flat → Walk → Result T E → (Table → IndexOf CatalogueBody → T → Type 0) → Type 0
 SeesWalked view old c stem sub flat walk result gives = ToldWalked view old c stem sub flat walk (λ t x. IfOk result (gives t x))
-
--- the rows that a call gave are those that a query finds
-abbrev pub AreMetRows : Flat → Table → IndexOf CatalogueBody → Vec RowKey Global → Type 0
-AreMetRows flat t x rows = map (λ (r : RowKey). r.0) rows.items ≡ met_rows t x (reduced_of flat)
 
 -- ---- what a step makes of a row
 

@@ -1,5 +1,5 @@
 //! Which places of a sub-index a search takes.
-#![tactic(auto, using(crate::proofs::FirstPlaces::behind_none))]
+#![tactic(auto)]
 
 ghost use Rattle.std.specs.Prelude.{◌≡◌, ◌≤◌, ℕ, Bool, List, true, false, length, IfOk};
 ghost use Rattle.cat_walk.specs.Places.{comes_before};
@@ -24,24 +24,4 @@ pub trait PlaceRange {
     /// Whether no place from this one on is taken: there the search ends.
     fn is_past(&self, place: &[u8]) -> bool
         ensures { result ≡ true → (later : List ℕ) → comes_before later place.now ≡ false → takes self.now later ≡ false };
-}
-
-/// All places.
-#[derive(Clone, Copy)]
-pub struct Everywhere;
-
-impl PlaceRange for Everywhere {
-    ghost takes = { λ _ _. true };
-
-    fn first(&self) -> &[u8] {
-        &[]
-    }
-
-    fn takes(&self, _alloc: Global, _place: &[u8]) -> Result<bool, Memory> {
-        Ok(true)
-    }
-
-    fn is_past(&self, _place: &[u8]) -> bool {
-        false
-    }
 }

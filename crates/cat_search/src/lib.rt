@@ -9,6 +9,6 @@ mod meeting;
 mod searching;
 mod slots;
 
-pub use bounding::{Everywhere, PlaceRange};
+pub use bounding::PlaceRange;
 pub use laws::{met_rows_are_exact, met_rows_are_few, searching_laws};
-pub use searching::{rows_meeting, rows_within};
+pub use searching::rows_within;

@@ -1,16 +1,16 @@
 //! The rows that a query finds.
 #![tactic(auto, using(ct_keep::specs::laws::Composing::reads_on, ct_keep::specs::laws::Composing::reads_short))]
 
-ghost use Rattle.std.specs.Prelude.{◌≡◌, true, IfOk};
+ghost use Rattle.std.specs.Prelude.{◌≡◌, IfOk};
 ghost use Rattle.ct_keep.specs.KeeperViews.{OnlyReads};
 ghost use Rattle.q_tree.specs.ReducedQueries.{reduced_of};
 ghost use Rattle.cat_search.specs.Meeting.{IsQueryFor};
-ghost use Rattle.cat_search.specs.Contents.{AreMetRows, SeesCatalogue, ToldCatalogue};
+ghost use Rattle.cat_search.specs.Contents.{ToldCatalogue};
 ghost use Rattle.cat_search.specs.SubIndexes.{AreTakenRows, HasSub};
 ghost use Rattle.cat_search.specs.Walking.{sub_stem};
 ghost use Rattle.cat_search.specs.Looking.{ReadsSlotTexts};
 
-use crate::bounding::{Everywhere, PlaceRange};
+use crate::bounding::PlaceRange;
 use crate::compiling::compile;
 use crate::gathering::rows_of_walk;
 use cat_index::Catalogue;
@@ -19,9 +19,6 @@ use ct_entry::{Kind, key_bytes};
 use ct_keep::{KeepFault, Keeper};
 use q_tree::Flat;
 use std::alloc::Global;
-
-/// The number of the plain sub-index, which each catalogue has.
-const PLAIN: u8 = 0;
 
 /// What the keys of a sub-index begin with.
 fn sub_stem(alloc: Global, index: &Name, sub: u8) -> Result<Vec<u8>, Memory>
@@ -55,25 +52,4 @@ pub fn rows_within<K: Keeper, R: PlaceRange>(
     let stem = sub_stem(alloc, index, sub)?;
     let walk = compile(alloc, keeper, &stem, flat)?;
     rows_of_walk(alloc, keeper, catalogue, sub, flat, &stem, &walk, range)
-}
-
-/// The rows of a catalogue's table whose text meets a query, in the order of their keys. The query has terms, AND, OR and NOT alone.
-///
-/// It walks through the entries of the plain sub-index, and so looks at the rows alone whose words don't rule out that they meet the query; where a
-/// phrase has several slots, it reads the text of each of these, once. Each part of the query is walked once, and of what is joined by OR the places
-/// are gathered first. It never answers Full.
-pub fn rows_meeting<K: Keeper>(
-    alloc: Global,
-    keeper: &mut K,
-    index: &Name,
-    catalogue: &Catalogue,
-    flat: &Flat,
-) -> Result<Vec<RowKey>, KeepFault>
-    requires ready { (K.view keeper.old).ready }
-    requires query { IsQueryFor catalogue.now.prefs (reduced_of flat.now) }
-    ensures rows { SeesCatalogue K.view keeper.old index.now catalogue.now result (AreMetRows flat.now) }
-    ensures reads { OnlyReads K.view keeper.old keeper.new result }
-    ensures texts { ToldCatalogue K.view keeper.old index.now catalogue.now (ReadsSlotTexts K.view keeper.old keeper.new flat.now) }
-{
-    rows_within(alloc, keeper, index, catalogue, PLAIN, flat, &Everywhere)
 }
