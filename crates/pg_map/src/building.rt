@@ -106,7 +106,7 @@ impl Building {
         }
     }
 
-    /// Puts what waits into the map.
+    /// Puts what waits into the map. Its limit is the greatest number, which no weight of entries in memory reaches, so want of memory is the only fault.
     fn flush(&mut self, alloc: Global) -> Result<(), Memory>
         ensures { OnOk result (self.new ≡ self.old) }
     {
@@ -117,8 +117,8 @@ impl Building {
         }
     }
 
-    /// Puts what waits into the map, if it is much.
-    fn flush_much(&mut self, alloc: Global) -> Result<(), Memory>
+    /// Puts what waits into the map, if so much waits as may at once.
+    fn flush_if_full(&mut self, alloc: Global) -> Result<(), Memory>
         ensures { OnOk result (self.new ≡ self.old) }
     {
         if self.waiting.len() < WAITING {
@@ -134,7 +134,7 @@ impl Building {
             → self.new ≡ record { places = insert self.old.places entry.key.items entry.at; content = insert self.old.content entry.key.items entry.value.items }) }
         ensures again { IfOk result (λ is_new. is_new ≡ false → IsSome (get self.old.places entry.key.items)) }
     {
-        self.flush_much(alloc)?;
+        self.flush_if_full(alloc)?;
         let ReadEntry {
             head: _,
             at,
@@ -177,7 +177,7 @@ fn put_in_order(entries: &mut Vec<ReadEntry>)
 }
 
 /// Gives memory back that entries had which were taken out.
-fn give_back(entries: &mut Vec<ReadEntry>)
+fn shrink_if_sparse(entries: &mut Vec<ReadEntry>)
     ensures { entries.new.items ≡ entries.old.items }
 {
     let room = entries.capacity();
@@ -201,7 +201,7 @@ pub(crate) fn map_of(
         if !building.add(alloc, entry)? {
             return Ok(None);
         }
-        give_back(&mut entries);
+        shrink_if_sparse(&mut entries);
     }
     Ok(Some(building.finish(alloc)?))
 }

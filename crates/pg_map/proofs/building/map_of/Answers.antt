@@ -12,8 +12,8 @@ loop-entry-init c = built_none (map entry_at c.put_in_order.new.entries.items) c
 pub loop-entry-preserved : goal.loop-entry-preserved
 loop-entry-preserved c =
     let e = c.in-Some.entry in
-    let rest = c.give_back.new.entries.items in
-    let last = ap (λ (l : List ReadEntry). map entry_at l) (c.in-Some.ensures.items ∙ ap (λ (l : List ReadEntry). l ++ e ∷ []) (sym c.give_back.ensures)) ∙ map-append entry_at rest (e ∷ []) in
+    let rest = c.shrink_if_sparse.new.entries.items in
+    let last = ap (λ (l : List ReadEntry). map entry_at l) (c.in-Some.ensures.items ∙ ap (λ (l : List ReadEntry). l ++ e ∷ []) (sym c.shrink_if_sparse.ensures)) ∙ map-append entry_at rest (e ∷ []) in
     built_more (map entry_at c.put_in_order.new.entries.items) (map entry_at c.loop-entry.entries.items) (map entry_at rest) c.loop-entry.building c.add.new.self e.at (e.key.items, e.value.items) c.loop-entry.invariant last
     (c.in_ok-add.ensures.first c.if-not-branch.false) (c.in_ok-add.ensures.added c.if-not-branch.false)
 
