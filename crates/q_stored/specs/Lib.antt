@@ -4,6 +4,7 @@ pub mod Writing
 pub mod Reading
 pub mod Building
 pub mod Anchoring
+pub mod Decoding
 pub mod AnchorViews
 pub mod Promises
 pub mod laws

@@ -3,3 +3,4 @@ pub mod Apart
 pub mod Prefixes
 pub mod Stored
 pub mod Anchors
+pub mod Decoding
