@@ -1,0 +1,15 @@
+pub mod Outcomes
+pub mod Kept
+pub mod RuleIndexes
+pub mod Spelling
+pub mod Changes
+pub mod Standing
+pub mod Room
+pub mod Kind
+pub mod KindPromises
+pub mod Readings
+pub mod Sees
+pub mod Listed
+pub mod Matching
+pub mod Shapes
+pub mod laws

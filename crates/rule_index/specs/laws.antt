@@ -1,0 +1,12 @@
+pub mod Marks
+pub mod Created
+pub mod Own
+pub mod Kind
+pub mod Keeping
+pub mod Reading
+pub mod Listing
+pub mod Shapes
+pub mod KeptShapes
+pub mod Filed
+pub mod Matching
+pub mod Looks
