@@ -7,8 +7,9 @@ use Rattle.ct_entry.specs.Keys.{Key, key, bytes, IsPart}
 use Rattle.ct_entry.specs.KeyParts.{SpellsKey}
 use Rattle.ct_entry.specs.laws.Keys.{key_from_bytes}
 use Rattle.tb_table.specs.Shapes.{HasTableValue, IsTableShape}
-use Rattle.ix_context.specs.Shapes.{HasContextValue, IsContextShape}
-use Rattle.cat_index.specs.Shapes.{HasCatalogueValue, IsCatalogueShape}
+use Rattle.ix_context.specs.Shapes.{HasContextValue}
+use Rattle.cat_index.specs.Shapes.{HasCatalogueValue}
+use Rattle.rule_index.specs.Shapes.{HasRuleValue}
 use Rattle.ix_indexes.specs.Shapes.{HasIndexValue, IsIndexShape}
 use Rattle.tx_prefs.specs.Shapes.{HasPrefValue, IsPrefShape}
 use Rattle.th_store.specs.Shapes.{HasThesaurusValue, IsThesaurusShape}
@@ -25,7 +26,8 @@ module _ (spelling value owner part : List ℕ) (kind : Kind) (parts : IsName ow
 
   pub of_index : IsIndexShape kind part value → IsStoreEntry spelling value
   of_index (inl shape) = record { key = key kind owner part; spelt = parts.1; parts = record { owner = parts.0; part = shape.0 }; has = inr (inl (inl shape.1)) }
-  of_index (inr shape) = record { key = key kind owner part; spelt = parts.1; parts = record { owner = parts.0; part = shape.0 }; has = inr (inl (inr shape.1)) }
+  of_index (inr (inl shape)) = record { key = key kind owner part; spelt = parts.1; parts = record { owner = parts.0; part = shape.0 }; has = inr (inl (inr (inl shape.1))) }
+  of_index (inr (inr shape)) = record { key = key kind owner part; spelt = parts.1; parts = record { owner = parts.0; part = shape.0 }; has = inr (inl (inr (inr shape.1))) }
 
   pub of_preference : IsPrefShape kind part value → IsStoreEntry spelling value
   of_preference shape = record { key = key kind owner part; spelt = parts.1; parts = record { owner = parts.0; part = shape.rest }; has = inr (inr (inl shape.has)) }
@@ -36,6 +38,12 @@ module _ (spelling value owner part : List ℕ) (kind : Kind) (parts : IsName ow
   same_key : (entry : IsStoreEntry spelling value) → entry.key ≡ key kind owner part
   same_key entry = key_from_bytes entry.key (key kind owner part) (sym entry.spelt ∙ parts.1)
 
+  -- that of an index is one of the three
+  index_shape : (entry : IsStoreEntry spelling value) → IsPart kind part → HasIndexValue entry.key value → IsIndexShape kind part value
+  index_shape entry rest has =
+      ⊎_elim (λ h. inl (rest, subst (λ (k : Key). HasContextValue k value) (same_key entry) h))
+      (λ more. ⊎_elim (λ h. inr (inl (rest, subst (λ (k : Key). HasCatalogueValue k value) (same_key entry) h))) (λ h. inr (inr (rest, subst (λ (k : Key). HasRuleValue k value) (same_key entry) h))) more) has
+
   -- it is one of the four
   pub either : IsStoreEntry spelling value → IsTableShape kind part value ⊎ (IsIndexShape kind part value ⊎ (IsPrefShape kind part value ⊎ IsThesaurusShape kind part value))
   either entry =
@@ -43,7 +51,7 @@ module _ (spelling value owner part : List ℕ) (kind : Kind) (parts : IsName ow
       ⊎_elim
       (λ has. inl (record { rest = rest; has = subst (λ (k : Key). HasTableValue k value) (same_key entry) has }))
       (λ others. ⊎_elim
-      (λ has. inr (inl (⊎_elim (λ h. inl (rest, subst (λ (k : Key). HasContextValue k value) (same_key entry) h)) (λ h. inr (rest, subst (λ (k : Key). HasCatalogueValue k value) (same_key entry) h)) has)))
+      (λ has. inr (inl (index_shape entry rest has)))
       (λ more. ⊎_elim
       (λ has. inr (inr (inl (record { rest = rest; has = subst (λ (k : Key). HasPrefValue k value) (same_key entry) has }))))
       (λ has. inr (inr (inr (record { rest = rest; has = subst (λ (k : Key). HasThesaurusValue k value) (same_key entry) has })))) more) others)

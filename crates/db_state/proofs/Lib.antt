@@ -1,6 +1,7 @@
 pub mod Listed
 pub mod Committed
 pub mod Targets
+pub mod RuleEntries
 pub mod WeighEntries
 pub mod WeighIndexes
 pub mod WeighRooms

@@ -1,8 +1,7 @@
 -- Each entry of a content that stands for a state is one that a store has.
-use Rattle.std.proofs.Common.{◌≡◌, ℕ, ◌≤◌, true, false, List, [], ◌∷◌, arith, length, Some, refl, sym, ap, subst, ◌∙◌, inl, inr}
+use Rattle.std.proofs.Common.{◌≡◌, ℕ, ◌≤◌, true, List, [], ◌∷◌, arith, length, Some, refl, sym, ap, subst, ◌∙◌, inl, inr}
 use Rattle.std.specs.Prelude.{IsSome}
 use Rattle.std.specs.FinMap.{get}
-use Rattle.ct_base.specs.laws.Options.{none_or_some}
 use Rattle.ct_keep.specs.Content.{Content, IsEntry, value_limit}
 use Rattle.ct_keep.specs.Changes.{IsWell}
 use Rattle.ct_entry.specs.declared.kinds.Kind.{Kind}
@@ -14,6 +13,7 @@ use Rattle.ct_entry.specs.laws.Parts.{has_short_keys}
 use Rattle.ct_entry.specs.laws.Well.{entry_of_key}
 use Rattle.tb_table.specs.Shapes.{HasTableValue}
 use Rattle.ix_context.specs.Shapes.{HasContextValue}
+use Rattle.rule_index.specs.Shapes.{HasRuleValue}
 use Rattle.ix_indexes.specs.Shapes.{HasIndexValue}
 use Rattle.tx_prefs.specs.Shapes.{HasPrefValue}
 use Rattle.tx_prefs.specs.laws.Values.{lexer_value, stoplist_value, group_value, set_value}
@@ -23,11 +23,11 @@ use Rattle.th_store.specs.Thesauri.{pair_part}
 use Rattle.th_store.specs.Spelling.{pair_key, thesaurus_key}
 use Rattle.th_store.specs.laws.Parts.{part_is_pair}
 use Rattle.th_store.specs.laws.Room.{pair_well, thesaurus_well}
-use Rattle.db_state.specs.States.{StoreState, StandsForState, is_built}
+use Rattle.db_state.specs.States.{StoreState, StandsForState}
 use Rattle.db_state.specs.Shapes.{HasStoreValue, IsStoreEntry}
 use Rattle.db_state.specs.Promises.{StoresAreWell}
 use Rattle.db_state.proofs.StoreTables.{table_value, numbers_value, text_value}
-use Rattle.db_state.proofs.StoreIndexes.{index_value, document_row_value, row_document_value, pending_value, posting_value, span_value, filed_value}
+use Rattle.db_state.proofs.StoreIndexes.{index_value, document_row_value, row_document_value, pending_value, posting_value, span_value, filed_value, rule_value, anchor_value, fault_value}
 use Rattle.ct_base.specs.Limits.{stream_limit}
 use Rattle.ct_base.specs.Names.{IsName}
 use Rattle.ct_entry.specs.Keys.{span_part}
@@ -51,6 +51,9 @@ of_index k v short is = record { has = inr (inl is.0); within = short_entry k v 
 of_context : (k : Key) (v : List ℕ) → has_short_keys k.kind ≡ true → HasContextValue k v × (length v ≤ value_limit) → IsStored k v
 of_context k v short is = of_index k v short (inl is.0, is.1)
 
+of_rule : (k : Key) (v : List ℕ) → has_short_keys k.kind ≡ true → HasRuleValue k v × (length v ≤ value_limit) → IsStored k v
+of_rule k v short is = of_index k v short (inr (inr is.0), is.1)
+
 of_preference : (k : Key) (v : List ℕ) → has_short_keys k.kind ≡ true → HasPrefValue k v × (length v ≤ value_limit) → IsStored k v
 of_preference k v short is = record { has = inr (inr (inl is.0)); within = short_entry k v short is.1 }
 
@@ -61,15 +64,11 @@ of_thesaurus k v short none has = record { has = inr (inr (inr has)); within = s
 -- the entry of a row in a catalogue
 of_catalogue : (i part v : List ℕ) → IsWordPart part × (v ≡ []) → IsStored (key kind.Catalogue i part) v
 of_catalogue i part v is = record {
-  has = inr (inl (inr is));
+  has = inr (inl (inr (inl is)));
   within = λ key_is. subst (λ (e : List ℕ × List ℕ). IsEntry (bytes (key kind.Catalogue i e.0)) e.1) (λ j. (sym is.0.spelt j, sym is.1 j)) (word_entry i is.0.sub is.0.word is.0.values is.0.row key_is.owner is.0.token is.0.are);
 }
 
 module _ (c : Content) (m : StoreState) (stands : StandsForState c m) where
-  -- a kind that has no entries
-  nothing : (k : Key) (v : List ℕ) → is_built k.kind ≡ false → at c k ≡ Some v → IsStored k v
-  nothing k v none has = absurd (none_or_some (at c k) v (stands.unbuilt k none) has)
-
   posting : (i token v : List ℕ) (stream d : ℕ) → stream ≤ stream_limit → IsToken token → IsDocument d → at c (key kind.Postings i (posting_part stream token d)) ≡ Some v → IsStored (key kind.Postings i (posting_part stream token d)) v
   posting i token v stream d few is_token document has =
       of_context _ v refl (
@@ -116,9 +115,9 @@ module _ (c : Content) (m : StoreState) (stands : StandsForState c m) where
   stored kind.Postings o p v is = by_part kind.Postings o v p _ is.2.4 (posting o is.2.0 v is.0 is.1 is.2.1 is.2.2 is.2.3)
   stored kind.Spans o p v is = by_part kind.Spans o v p _ is.1.3 (spans o is.1.0 v is.0 is.1.1 is.1.2)
   stored kind.Catalogue o p v is = λ has. of_catalogue o p v (filed_value (at c) m.tables m.indexes stands.state.tables stands.state.indexes stands.indexes o p v is has)
-  stored kind.Rules o p v is = nothing (key kind.Rules o p) v refl
-  stored kind.Anchors o p v is = nothing (key kind.Anchors o p) v refl
-  stored kind.RuleFaults o p v is = nothing (key kind.RuleFaults o p) v refl
+  stored kind.Rules o p v is = by_part kind.Rules o v p _ is.2 (λ has. of_rule _ v refl (rule_value (at c) m.tables m.indexes stands.state.tables stands.state.indexes stands.indexes o v is.0 is.1 has))
+  stored kind.Anchors o p v is = by_part kind.Anchors o v p _ is.1.3 (λ has. of_rule _ v refl (anchor_value (at c) m.tables m.indexes stands.state.tables stands.state.indexes stands.indexes o v is.0 is.1.0 is.1.1 is.1.2 has))
+  stored kind.RuleFaults o p v is = by_part kind.RuleFaults o v p _ is.2 (λ has. of_rule _ v refl (fault_value (at c) m.tables m.indexes stands.state.tables stands.state.indexes stands.indexes o v is.0 is.1 has))
 
   each_is_well : (b v : List ℕ) → get c b ≡ Some v → IsWell IsStoreEntry b v
   each_is_well b v has =

@@ -8,7 +8,9 @@ use Rattle.ct_bytes.specs.RowKeys.{row_bytes}
 use Rattle.ct_bytes.specs.laws.RowKeys.{length-row_bytes}
 use Rattle.ct_keep.specs.Content.{value_limit}
 use Rattle.ct_entry.specs.declared.kinds.Kind.TheVariants as kind
-use Rattle.ct_entry.specs.Keys.{Key, key, row_part, document_part, IsRow, IsDocument, IsPart}
+use Rattle.ct_base.specs.Limits.{token_limit}
+use Rattle.ct_entry.specs.declared.kinds.Kind.{Kind}
+use Rattle.ct_entry.specs.Keys.{Key, key, row_part, document_part, anchor_part, IsRow, IsDocument, IsPart}
 use Rattle.ct_entry.specs.laws.Lists.{each_at_in}
 use Rattle.ct_entry.specs.Maps.{Names}
 use Rattle.tb_table.specs.Tables.{Tables}
@@ -29,11 +31,17 @@ use Rattle.ix_kinds.specs.laws.Tables.{table_is}
 use Rattle.ix_context.specs.Indexes.{mark_limit}
 use Rattle.cat_index.specs.Shapes.{IsWordPart}
 use Rattle.cat_index.specs.laws.Well.{entry_well, row_well}
-use Rattle.ix_indexes.specs.Indexes.{Body, Defined, Index, index_entry, kinds, IndexesStand, AreIndexes, IsIndex, as_catalogue, marks_in, part_in, mark_of, mark_at, part_of, postings_in}
+use Rattle.ix_indexes.specs.Indexes.{Body, Defined, Index, index_entry, kinds, IndexesStand, AreIndexes, IsIndex, as_catalogue, as_rules, marks_in, part_in, mark_of, mark_at, part_of, postings_in}
 use Rattle.ix_indexes.specs.Shapes.{HasIndexValue}
-use Rattle.ix_indexes.specs.laws.Indexes.{context_at, entry_at, kind_is, catalogue_is, catalogue_at, filed_in, marked_row}
+use Rattle.ix_indexes.specs.laws.Indexes.{context_at, entry_at, kind_is, catalogue_is, catalogue_at, filed_in, is_of_rules, marked_row, rules_are, rules_at, ruled_in}
 use Rattle.ix_context.specs.Shapes.{HasContextValue, StartsAt, IsRowFrom, IsSpanRowFrom}
 use Rattle.ix_context.specs.laws.Well.{length-entry_le}
+use Rattle.rule_index.specs.RuleIndexes.{RuleIndex, RuleMark, mark_of as rule_of}
+use Rattle.rule_index.specs.Shapes.{HasRuleValue}
+use Rattle.rule_index.specs.Standing.{IsRuleMark, MarksStand}
+use Rattle.rule_index.specs.laws.Kind.{entry_is as rules_entry_is}
+use Rattle.rule_index.specs.laws.Shapes.{length-rules_bytes_le}
+use Rattle.db_state.proofs.RuleEntries.{query_well, anchor_well, fault_well}
 use Rattle.db_state.proofs.WeighIndexes.{settled_there, is_queued}
 use Rattle.ix_context.specs.laws.ContextRows.{entry_is}
 use Rattle.ix_context.specs.laws.Reading.{column_few}
@@ -49,7 +57,7 @@ few_given ts x is r settled = go x.body (kind_is ts x is) settled
   where
     go : (b : Body) → kinds.is (table_at ts x.table) (with_body x b) → is_settled (marks_in b r) ≡ true → (part_in b).given ≤ mark_limit
     go (inl b) rules h = rules.numbers
-    go (inr b) rules h = cc
+    go (inr b) rules h = omega arith
 
 module _ (f : Key → Option (List ℕ)) (ts : Tables) (xs : Names Index) (tables : AreTables ts) (are : AreIndexes ts xs) (stand : IndexesStand f ts xs) where
   its_part : (i : List ℕ) → PartStands f i (postings_in ts (get xs i)) (mark_at xs i) (part_of (get xs i))
@@ -80,10 +88,18 @@ module _ (f : Key → Option (List ℕ)) (ts : Tables) (xs : Names Index) (table
             inl (record { table = x.table; column = x.column; prefs = x.prefs; next = b.part.given + 1; named = name; place = omega (arith, few); are = index.prefs; fits = omega (arith, most); spelt = sym same }),
             omega (arith, long, ap length same),
           )
-      go (inr b) is =
+      go (inr (inl b)) is =
           let few = column_few ts tables x.table x.column index.target in
           let well = entry_well Defined i (with_body x b) (table_at ts x.table) (tables.names x.table index.target.table index.target.there) (omega (arith, few)) index.prefs is in
-          (inr well.0, well.1)
+          (inr (inl well.0), well.1)
+      go (inr (inr b)) is =
+          let name = tables.names x.table index.target.table index.target.there in
+          let few = column_few ts tables x.table x.column index.target in
+          let long = length-rules_bytes_le x.table x.column x.prefs name index.prefs in
+          let same = rules_entry_is (with_body x b) in (
+            inr (inr (record { table = x.table; column = x.column; prefs = x.prefs; named = name; place = omega (arith, few); are = index.prefs; spelt = sym same })),
+            omega (arith, long, ap length same),
+          )
 
   pub index_value : (i v : List ℕ) → f (key kind.Indexes i []) ≡ Some v → HasIndexValue (key kind.Indexes i []) v × (length v ≤ value_limit)
   index_value i v has =
@@ -97,6 +113,22 @@ module _ (f : Key → Option (List ℕ)) (ts : Tables) (xs : Names Index) (table
       let x = found.0 in
       let index = are.each i (as_catalogue x) found.1 in
       (row_well f i x (table_at ts x.table) (table_is ts x.table index.target.table tables index.target.there) index.prefs (catalogue_is ts x index) (catalogue_at f ts xs stand i x found.1) part v is has).0
+
+  -- an entry of a rule index
+  ruled_value : (k : Kind) (i part v : List ℕ) → is_of_rules k ≡ true → f (key k i part) ≡ Some v
+      → ((x : RuleIndex) → MarksStand f i (rule_of x) → ((r : ℤ) (m : RuleMark) → rule_of x r ≡ Some m → IsRuleMark m) → HasRuleValue (key k i part) v × (length v ≤ value_limit)) → HasRuleValue (key k i part) v × (length v ≤ value_limit)
+  ruled_value k i part v of has value =
+      let found = ruled_in f ts xs stand k i part v of has in
+      value found.0 (rules_at f ts xs stand i found.0 found.1) (rules_are ts found.0 (are.each i (as_rules found.0) found.1)).each
+
+  pub rule_value : (i v : List ℕ) (r : ℤ) → IsRow r → f (key kind.Rules i (row_part r)) ≡ Some v → HasRuleValue (key kind.Rules i (row_part r)) v × (length v ≤ value_limit)
+  rule_value i v r row has = ruled_value kind.Rules i (row_part r) v refl has (λ x its each. query_well f i x its each r v row has)
+
+  pub anchor_value : (i v a : List ℕ) (r : ℤ) → length a ≤ token_limit → IsRow r → f (key kind.Anchors i (anchor_part a r)) ≡ Some v → HasRuleValue (key kind.Anchors i (anchor_part a r)) v × (length v ≤ value_limit)
+  anchor_value i v a r short row has = ruled_value kind.Anchors i (anchor_part a r) v refl has (λ x its each. anchor_well f i x its each a r v short row has)
+
+  pub fault_value : (i v : List ℕ) (r : ℤ) → IsRow r → f (key kind.RuleFaults i (row_part r)) ≡ Some v → HasRuleValue (key kind.RuleFaults i (row_part r)) v × (length v ≤ value_limit)
+  fault_value i v r row has = ruled_value kind.RuleFaults i (row_part r) v refl has (λ x its each. fault_well f i x its each r v row has)
 
   pub document_row_value : (i v : List ℕ) (d : ℕ) → IsDocument d → f (key kind.DocumentRows i (document_part d)) ≡ Some v → HasContextValue (key kind.DocumentRows i (document_part d)) v × (length v ≤ value_limit)
   document_row_value i v d document has =

@@ -17,6 +17,7 @@ use Rattle.ix_indexes.specs.Indexes.{Body, Index, index_entry, listed_marks}
 use Rattle.tx_prefs.specs.Room.{preference_entries}
 use Rattle.th_store.specs.Room.{thesaurus_entries}
 use Rattle.db_state.specs.States.{StoreState}
+use Rattle.db_state.proofs.RuleEntries.{ruled_entries}
 
 abbrev pub Entry : Type 0
 Entry = List ℕ × List ℕ
@@ -45,10 +46,11 @@ abbrev pub mark_entries : (List ℕ → ℤ → Option ℕ) → List ℕ → ℤ
 mark_entries document i (r, Pending) = entry (key kind.Pending i (row_part r)) [] ∷ []
 mark_entries document i (r, Settled _) = document_entries i r (document i r)
 
--- those of the rows of its table in a catalogue
+-- those of the rows of its table in a catalogue, and of the rules in a rule index
 abbrev pub filed_entries : Tables → List ℕ → Index → Body → List Entry
 filed_entries ts i x (inl c) = []
-filed_entries ts i x (inr b) = catalogue_entries i (with_body x b) (table_at ts x.table)
+filed_entries ts i x (inr (inl b)) = catalogue_entries i (with_body x b) (table_at ts x.table)
+filed_entries ts i x (inr (inr b)) = ruled_entries i b
 
 abbrev pub index_entries : (List ℕ → ℤ → Option ℕ) → Tables → List ℕ × Index → List Entry
 index_entries document ts e = entry (key kind.Indexes e.0 []) (index_entry e.1) ∷ (flat_map (mark_entries document e.0) (listed_marks e.1.body) ++ filed_entries ts e.0 e.1 e.1.body)

@@ -1,5 +1,5 @@
 -- Each entry that spells an index, but for the rows of postings, is among those of all.
-use Rattle.std.proofs.Common.{◌≡◌, ℕ, ℤ, true, List, [], Option, Some, None, refl, sym, ap, subst, ◌∙◌, inl, inr}
+use Rattle.std.proofs.Common.{◌≡◌, ◌≤◌, ℕ, ℤ, true, length, List, [], Option, Some, None, refl, sym, ap, subst, ◌∙◌, inl, inr}
 use Rattle.std.specs.Prelude.{is_some}
 use Rattle.std.specs.List.{flat_map}
 use Rattle.std.specs.Int.{to_be_bytes, w32}
@@ -7,7 +7,9 @@ use Rattle.std.specs.FinMap.{get, entries, nat_cmp-IsAntisymmetric, int_cmp-IsAn
 use Rattle.ct_base.specs.laws.Options.{option_map_some}
 use Rattle.ct_bytes.specs.RowKeys.{row_bytes}
 use Rattle.ct_entry.specs.declared.kinds.Kind.TheVariants as kind
-use Rattle.ct_entry.specs.Keys.{Key, key, row_part, document_part, IsRow, IsDocument, IsPart}
+use Rattle.ct_base.specs.Limits.{token_limit}
+use Rattle.ct_entry.specs.declared.kinds.Kind.{Kind}
+use Rattle.ct_entry.specs.Keys.{Key, key, row_part, document_part, anchor_part, IsRow, IsDocument, IsPart}
 use Rattle.ct_entry.specs.Lists.{IsIn}
 use Rattle.ct_entry.specs.laws.Lists.{in_flat_mapped, in_left, in_right}
 use Rattle.ct_entry.specs.laws.MapEntries.{get_in}
@@ -16,9 +18,12 @@ use Rattle.tb_table.specs.Tables.{Tables}
 use Rattle.ix_docmap.specs.Marks.{Mark, Pending, Settled, is_settled, queued}
 use Rattle.ix_context.specs.Standing.{PartStands}
 use Rattle.cat_index.specs.laws.Weights.{entry_listed}
-use Rattle.ix_indexes.specs.Indexes.{Body, Index, index_entry, IndexesStand, as_catalogue, listed_marks, marks_in, mark_of, mark_at, part_of, postings_in}
-use Rattle.ix_indexes.specs.laws.Indexes.{context_at, entry_at, catalogue_at, filed_in}
+use Rattle.ix_indexes.specs.Indexes.{Body, Index, index_entry, IndexesStand, as_catalogue, as_rules, listed_marks, marks_in, mark_of, mark_at, part_of, postings_in}
+use Rattle.ix_indexes.specs.laws.Indexes.{context_at, entry_at, catalogue_at, filed_in, is_of_rules, rules_at, ruled_in}
 use Rattle.ix_kinds.specs.Rows.{table_at}
+use Rattle.rule_index.specs.RuleIndexes.{RuleIndex, mark_of as rule_of}
+use Rattle.rule_index.specs.Standing.{MarksStand}
+use Rattle.db_state.proofs.RuleEntries.{ruled_entries, waits_listed, query_listed, anchor_listed, fault_listed}
 use Rattle.db_state.proofs.WeighEntries.{Entry, entry, document_entries, mark_entries, filed_entries, index_entries}
 
 -- ---- marks
@@ -40,7 +45,8 @@ mark_there (Some x) r m h = (x, refl, h)
 -- a mark is among those listed
 mark_listed : (b : Body) (r : ℤ) (m : Mark (Unit {0})) → marks_in b r ≡ Some m → IsIn (r, m) (listed_marks b)
 mark_listed (inl c) r m at = get_in int_cmp-IsAntisymmetric c.marks r m at
-mark_listed (inr b) r m at = cc
+mark_listed (inr (inl b)) r m at = cc
+mark_listed (inr (inr b)) r m at = waits_listed (entries b.marks) r (get b.marks r) m (λ k is. get_in int_cmp-IsAntisymmetric b.marks r k is) at
 
 -- ---- the entries of indexes
 
@@ -97,5 +103,24 @@ module _ (f : Key → Option (List ℕ)) (ts : Tables) (xs : Names Index) (stand
       let found = filed_in f ts xs stand i part v has in
       let x = found.0 in
       in_index i (as_catalogue x) _ found.1
-      (inr (in_right (entry (key kind.Catalogue i part) v) (flat_map (mark_entries numbers i) (listed_marks (inr x.body))) (filed_entries ts i (as_catalogue x) (inr x.body))
+      (inr (in_right (entry (key kind.Catalogue i part) v) (flat_map (mark_entries numbers i) (listed_marks (inr (inl x.body)))) (filed_entries ts i (as_catalogue x) (inr (inl x.body)))
       (entry_listed f i x (table_at ts x.table) (catalogue_at f ts xs stand i x found.1) part v is has)))
+
+  -- what is among the entries of rules
+  in_rules : (i : List ℕ) (x : RuleIndex) (e : Entry) → get xs i ≡ Some (as_rules x) → IsIn e (ruled_entries i x.body) → IsListed e
+  in_rules i x e is h = in_index i (as_rules x) e is (inr (in_right e (flat_map (mark_entries numbers i) (listed_marks (inr (inr x.body)))) (filed_entries ts i (as_rules x) (inr (inr x.body))) h))
+
+  -- where a name has such an entry, it is that of a rule index
+  ruled : (k : Kind) (i part v : List ℕ) → is_of_rules k ≡ true → f (key k i part) ≡ Some v → ((x : RuleIndex) → MarksStand f i (rule_of x) → IsIn (entry (key k i part) v) (ruled_entries i x.body)) → IsListed (entry (key k i part) v)
+  ruled k i part v of has listed =
+      let found = ruled_in f ts xs stand k i part v of has in
+      in_rules i found.0 (entry (key k i part) v) found.1 (listed found.0 (rules_at f ts xs stand i found.0 found.1))
+
+  pub rule_in : (i v : List ℕ) (r : ℤ) → IsRow r → f (key kind.Rules i (row_part r)) ≡ Some v → IsListed (entry (key kind.Rules i (row_part r)) v)
+  rule_in i v r row has = ruled kind.Rules i (row_part r) v refl has (λ x its. query_listed f i x its r v row has)
+
+  pub anchor_in : (i v a : List ℕ) (r : ℤ) → length a ≤ token_limit → IsRow r → f (key kind.Anchors i (anchor_part a r)) ≡ Some v → IsListed (entry (key kind.Anchors i (anchor_part a r)) v)
+  anchor_in i v a r short row has = ruled kind.Anchors i (anchor_part a r) v refl has (λ x its. anchor_listed f i x its a r v short row has)
+
+  pub fault_in : (i v : List ℕ) (r : ℤ) → IsRow r → f (key kind.RuleFaults i (row_part r)) ≡ Some v → IsListed (entry (key kind.RuleFaults i (row_part r)) v)
+  fault_in i v r row has = ruled kind.RuleFaults i (row_part r) v refl has (λ x its. fault_listed f i x its r v row has)

@@ -1,5 +1,5 @@
 -- The entries that spell a state, and what its postings may take, weigh at most its room.
-use Rattle.std.proofs.Common.{◌≡◌, ℕ, ◌+◌, ◌≤◌, ℤ, List, [], ◌∷◌, ◌++◌, length, map, Option, Some, None, refl, arith, length-append, inl, inr}
+use Rattle.std.proofs.Common.{◌≡◌, ℕ, ◌+◌, ◌≤◌, ℤ, List, [], ◌∷◌, ◌++◌, length, map, Option, Some, None, refl, ap, arith, length-append, inl, inr}
 use Rattle.std.specs.Prelude.{sum_by, filter}
 use Rattle.std.specs.List.{flat_map}
 use Rattle.std.specs.Int.{to_be_bytes, w32}
@@ -19,12 +19,14 @@ use Rattle.ix_context.specs.Contexts.{mark_room}
 use Rattle.ix_kinds.specs.Rows.{table_at}
 use Rattle.ix_kinds.specs.Indextypes.{with_body}
 use Rattle.cat_index.specs.laws.Weights.{entries_weigh}
-use Rattle.ix_indexes.specs.Indexes.{Body, Index, index_entry, kinds, listed_marks, part_in, postings_in}
+use Rattle.rule_index.specs.RuleIndexes.{RuleMark}
+use Rattle.ix_indexes.specs.Indexes.{Body, Index, index_entry, kinds, listed_if_waits, listed_marks, part_in, postings_in}
 use Rattle.tx_prefs.specs.Room.{preference_entries}
 use Rattle.th_store.specs.Room.{thesaurus_entries}
 use Rattle.db_state.specs.States.{StoreState}
 use Rattle.db_state.specs.Room.{key_weight, text_room, row_room, table_room, index_room, room}
 use Rattle.ct_entry.specs.laws.Lists.{sum_by-map-le, sum_by-flat_map-le}
+use Rattle.db_state.proofs.RuleEntries.{ruled_entries, rules_weigh}
 use Rattle.db_state.proofs.WeighEntries.{entry, text_entry, row_entries, table_entries, document_entries, mark_entries, filed_entries, index_entries, all_entries}
 
 -- ---- what tables weigh
@@ -104,6 +106,12 @@ costs_are ts i x ((r, Settled a) ∷ es) =
 abbrev pub postings_room : Tables → List ℕ × Index → ℕ
 postings_room ts e = sum_by (λ r. document_cost e.0 (postings_in ts (Some e.1) r)) (settled_keys (listed_marks e.1.body)) + (part_in e.1.body).waste
 
+-- a rule index has none
+no_documents : (es : List (ℤ × RuleMark)) → settled_keys (flat_map listed_if_waits es) ≡ []
+no_documents [] = refl
+no_documents ((r, Pending) ∷ es) = no_documents es
+no_documents ((r, Settled outcome) ∷ es) = no_documents es
+
 -- by the kind of the index: what its entries weigh beside the one of its own
 body_weighs : (document : List ℕ → ℤ → Option ℕ) (ts : Tables) (i : List ℕ) (x : Index) (b : Body)
     → sum_by entry_weight (flat_map (mark_entries document i) (listed_marks b) ++ filed_entries ts i x b) + (sum_by (λ r. document_cost i (postings_in ts (Some x) r)) (settled_keys (listed_marks b)) + (part_in b).waste)
@@ -115,7 +123,14 @@ body_weighs document ts i x (inl c) =
       marks_weigh document ts i x (entries c.marks),
       costs_are ts i x (entries c.marks),
     )
-body_weighs document ts i x (inr b) = omega (arith, entries_weigh i (with_body x b) (table_at ts x.table))
+body_weighs document ts i x (inr (inl b)) = omega (arith, entries_weigh i (with_body x b) (table_at ts x.table))
+body_weighs document ts i x (inr (inr b)) =
+    omega (
+      arith,
+      sum_by-append entry_weight (flat_map (mark_entries document i) (flat_map listed_if_waits (entries b.marks))) (ruled_entries i b),
+      rules_weigh i (mark_entries document i) (λ r. refl) (entries b.marks),
+      ap (sum_by (λ r. document_cost i (postings_in ts (Some x) r))) (no_documents (entries b.marks)),
+    )
 
 index_weighs : (document : List ℕ → ℤ → Option ℕ) (ts : Tables) (e : List ℕ × Index) → sum_by entry_weight (index_entries document ts e) + postings_room ts e ≤ index_room ts e
 index_weighs document ts e =

@@ -6,7 +6,6 @@ use Rattle.std.specs.Ordering.{int_cmp, eq_by_cmp}
 use Rattle.std.specs.FinMap.{get, entries, find, get-entries, nat_cmp-IsAntisymmetric, int_cmp-IsAntisymmetric, slice_cmp-IsAntisymmetric}
 use Rattle.std.proofs.lemmas.Cmp.{nat_list_cmp_total}
 use Rattle.std.proofs.lemmas.List.Sums.{sum_by-cons}
-use Rattle.ct_base.specs.laws.Options.{none_or_some}
 use Rattle.ct_base.specs.laws.Orders.{equal_from_test}
 use Rattle.ct_keep.specs.Content.{Content, weight}
 use Rattle.ct_entry.specs.declared.kinds.Kind.{Kind}
@@ -27,12 +26,13 @@ use Rattle.th_store.specs.Thesauri.{pair_part}
 use Rattle.th_store.specs.Room.{thesaurus_entries}
 use Rattle.th_store.specs.laws.Parts.{part_is_pair}
 use Rattle.th_store.specs.laws.Room.{pair_in, thesaurus_in}
-use Rattle.db_state.specs.States.{StoreState, StandsForState, is_built, is_of_rows}
+use Rattle.db_state.proofs.RuleEntries.{no_document}
+use Rattle.db_state.specs.States.{StoreState, StandsForState, is_of_rows}
 use Rattle.db_state.specs.Room.{room}
 use Rattle.db_state.proofs.WeighEntries.{Entry, entry, table_entries, index_entries, all_entries}
 use Rattle.db_state.proofs.WeighRooms.{all_weigh, settled_keys, postings_room}
 use Rattle.db_state.proofs.WeighTables.{table_in, numbers_in, text_in_all}
-use Rattle.db_state.proofs.WeighIndexes.{numbers, index_in, document_row_in, row_document_in, pending_in, filed_entry_in}
+use Rattle.db_state.proofs.WeighIndexes.{numbers, index_in, document_row_in, row_document_in, pending_in, filed_entry_in, rule_in, anchor_in, fault_in}
 
 -- a row that is settled is among the settled ones
 in_settled : (r : ℤ) (es : List (ℤ × Mark (Unit {0}))) → is_settled (find int_cmp r es) ≡ true → IsIn r (settled_keys es)
@@ -74,10 +74,6 @@ module _ (c : Content) (m : StoreState) (stands : StandsForState c m) where
   of_thesauri : (e : Entry) → IsIn e (thesaurus_entries m.thesauri) → IsIn e (all_entries its_numbers m)
   of_thesauri e h = in_right e (flat_map table_entries (entries m.tables)) others (in_right e (flat_map (index_entries its_numbers m.tables) (entries m.indexes)) defined (in_right e (preference_entries m.preferences) (thesaurus_entries m.thesauri) h))
 
-  -- a kind that has no entries
-  nothing : (k : Key) (v : List ℕ) → is_built k.kind ≡ false → at c k ≡ Some v → IsListed k v
-  nothing k v none has = absurd (none_or_some (at c k) v (stands.unbuilt k none) has)
-
   -- by the part of the key
   by_part : (kind : Kind) (o v p q : List ℕ) → p ≡ q → (at c (key kind o q) ≡ Some v → IsListed (key kind o q) v) → at c (key kind o p) ≡ Some v → IsListed (key kind o p) v
   by_part kind o v p q same h = subst (λ (x : List ℕ). at c (key kind o x) ≡ Some v → IsListed (key kind o x) v) (sym same) h
@@ -102,9 +98,9 @@ module _ (c : Content) (m : StoreState) (stands : StandsForState c m) where
   listed kind.Postings o p v other is = cc
   listed kind.Spans o p v other is = cc
   listed kind.Catalogue o p v other is = λ has. of_indexes _ (filed_entry_in (at c) m.tables m.indexes stands.indexes o p v is has)
-  listed kind.Rules o p v other is = nothing (key kind.Rules o p) v refl
-  listed kind.Anchors o p v other is = nothing (key kind.Anchors o p) v refl
-  listed kind.RuleFaults o p v other is = nothing (key kind.RuleFaults o p) v refl
+  listed kind.Rules o p v other is = by_part kind.Rules o v p _ is.2 (λ has. of_indexes _ (rule_in (at c) m.tables m.indexes stands.indexes o v is.0 is.1 has))
+  listed kind.Anchors o p v other is = by_part kind.Anchors o v p _ is.1.3 (λ has. of_indexes _ (anchor_in (at c) m.tables m.indexes stands.indexes o v is.0 is.1.0 is.1.1 is.1.2 has))
+  listed kind.RuleFaults o p v other is = by_part kind.RuleFaults o v p _ is.2 (λ has. of_indexes _ (fault_in (at c) m.tables m.indexes stands.indexes o v is.0 is.1 has))
 
   -- an entry whose kind's code is neither of the rows of postings is of another kind
   of_rows : (k : Kind) (o p : List ℕ) (v : List ℕ) → has_code (code kind.Postings) (bytes (key k o p), v) ≡ false → has_code (code kind.Spans) (bytes (key k o p), v) ≡ false → is_of_rows k ≡ false
@@ -133,7 +129,8 @@ module _ (c : Content) (m : StoreState) (stands : StandsForState c m) where
     where
       go : (b : Body) → is_settled (marks_in b r) ≡ true → IsIn r (settled_keys (listed_marks b))
       go (inl b) h = in_settled r (entries b.marks) (ap is_settled (sym (get-entries b.marks r)) ∙ h)
-      go (inr b) h = cc
+      go (inr (inl b)) h = cc
+      go (inr (inr b)) h = absurd (no_document (get b.marks r) h)
 
   abbrev room_of : List ℕ → ℕ
   room_of i = sum_by (λ r. document_cost i (postings_in m.tables (get m.indexes i) r)) (settled_of (get m.indexes i)) + (part_of (get m.indexes i)).waste

@@ -12,7 +12,7 @@ use Rattle.tx_prefs.specs.Shapes.{HasPrefValue}
 use Rattle.th_store.specs.Shapes.{HasThesaurusValue}
 
 -- The value is one that entries of tables, of indexes, of what is defined for indexes, or of thesauri have under the key. No kind of entry is
--- of two of these; and for now there is no other kind in a store.
+-- of two of these; and there is no other kind in a store.
 abbrev pub HasStoreValue : Key → List ℕ → Type 0
 HasStoreValue k value = HasTableValue k value ⊎ (HasIndexValue k value ⊎ (HasPrefValue k value ⊎ HasThesaurusValue k value))
 

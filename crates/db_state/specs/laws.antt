@@ -15,4 +15,5 @@ pub mod Holding
 pub mod Unchanged
 pub mod Contexts
 pub mod CatalogueKeys
+pub mod RuleKeys
 pub mod NoteKeys

@@ -1,5 +1,5 @@
 -- Steps of loading the indexes on a table.
-use Rattle.std.proofs.Common.{◌≡◌, ℕ, ℤ, ◌<◌, List, [], ◌∷◌, ◌++◌, map, Option, Some, None, refl, sym, ap, subst, ◌∙◌, inl, inr, arith, append_assoc, append-nil, length}
+use Rattle.std.proofs.Common.{◌≡◌, ℕ, List, [], ◌∷◌, ◌++◌, map, Option, Some, None, refl, sym, ap, subst, ◌∙◌, arith, append_assoc}
 use Rattle.std.specs.List.{cons_option}
 use Rattle.std.specs.Prelude.{IfSome, IfOk, Result, Ok, Err, true}
 use Rattle.ct_keep.specs.declared.keepers.KeepFault.{KeepFault}
@@ -9,7 +9,6 @@ use Rattle.std.proofs.lemmas.Option.{same_Some}
 use Rattle.ct_keep.specs.Content.{Content}
 use Rattle.ct_entry.specs.declared.kinds.Kind.TheVariants as kind
 use Rattle.ct_entry.specs.Keys.{key, at}
-use Rattle.ct_entry.specs.Lists.{EachIs}
 use Rattle.ct_entry.specs.Maps.{Names}
 use Rattle.tb_table.specs.declared.columns.Column.{Column}
 use Rattle.tb_table.specs.Tables.{Tables}
@@ -21,7 +20,6 @@ use Rattle.ix_kinds.specs.Rows.{table_at}
 use Rattle.ix_kinds.specs.Indextypes.{IndexOf, with_body}
 use Rattle.ix_kinds.specs.Statements.{heads, head_of_index}
 use Rattle.ix_kinds.specs.laws.Telling.{head_found}
-use Rattle.ix_context.specs.Indexes.{ContextIndex}
 use Rattle.ix_context.specs.laws.Reading.{column_few}
 use Rattle.cat_index.specs.declared.catalogues.Catalogue.{Catalogue as HeldCatalogue}
 use Rattle.cat_index.specs.Catalogues.{CatalogueBody, places_in}
@@ -30,10 +28,10 @@ use Rattle.cat_index.specs.Spelling.{SpellsCatalogue, IsSpellable, catalogue_byt
 use Rattle.cat_index.specs.laws.Kind.{SameParts, entry_is, parts_one}
 use Rattle.cat_index.specs.laws.Well.{entry_of, spellable}
 use Rattle.ix_indexes.specs.declared.loading.TableIndex.{TableIndex}
-use Rattle.ix_indexes.specs.Indexes.{Body, Defined, Index, StandsUnder, kinds, as_catalogue}
-use Rattle.ix_indexes.specs.Noting.{CanTell, AllCanTell, HoldsIndexes, InContext, InCatalogue, Noted, noted_at, noted_index, noted_indexes, noted_named, noted_of}
+use Rattle.ix_indexes.specs.Indexes.{Defined, Index, StandsUnder, kinds, as_catalogue}
+use Rattle.ix_indexes.specs.Noting.{CanTell, AllCanTell, HoldsIndexes, InContext, InCatalogue, InRules, Noted, noted_at, noted_index, noted_indexes, noted_named}
 use Rattle.ix_indexes.specs.Loading.{IsHeadOf, noted_or_none}
-use Rattle.ix_indexes.specs.laws.Indexes.{entry_at, is_catalogue, is_context, catalogue_is, kinds_laws}
+use Rattle.ix_indexes.specs.laws.Indexes.{entry_at, is_catalogue, is_context, is_rules, catalogue_is, kinds_laws}
 
 -- ---- the loop
 
@@ -77,12 +75,11 @@ module _ (ts : Tables) (xs : Names Index) (columns : List Column) (i : List ℕ)
       let b = is_catalogue found.0 (kind_of Catalogue of) in
       (with_body found.0 b.0, found.1 ∙ ap Some b.1, is.columns ∙ ap (λ (h : IndexHead). (table_at ts h.target.table).columns) (sym found.2))
 
-  pub no_rules : h.kind ≡ Rules → [] ≡ noted_at i (get xs i)
-  no_rules of = absurd (go found.0.body (kind_of Rules of))
-    where
-      go : (b : Body) → kinds.kind b ≡ Rules → ⊥
-      go (inl c) of = let wrong : ◌≡◌ {A = IndexKind} Context Rules = of in cc
-      go (inr b) of = let wrong : ◌≡◌ {A = IndexKind} Catalogue Rules = of in cc
+  pub rules_noted : h.kind ≡ Rules → (i, InRules h.target.column) ∷ [] ≡ noted_at i (get xs i)
+  rules_noted of =
+      let b = is_rules found.0 (kind_of Rules of) in
+      ap (λ (n : ℕ). (i, InRules n) ∷ []) (sym (ap (λ (h : IndexHead). h.target.column) found.2))
+      ∙ sym (ap (noted_at i) (found.1 ∙ ap Some b.1))
 
 -- a catalogue that was found is what is noted of the name
 pub noted_result : (r : Result (Option TableIndex) KeepFault) (name i : List ℕ) (xs : Names Index) (x : IndexOf CatalogueBody) → name ≡ i → get xs i ≡ Some (as_catalogue x)

@@ -1,4 +1,6 @@
 pub mod Noting
 pub mod Indexes
 pub mod Removing
+pub mod Held
+pub mod Dropping
 pub mod EachAdded

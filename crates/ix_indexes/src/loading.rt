@@ -30,6 +30,8 @@ pub enum Noting {
     InContext(u8),
     /// As a catalogue, with the places in its table of the columns of its sub-indexes.
     InCatalogue(Catalogue, Listed<Listed<usize>>),
+    /// As a rule index on the column at this place.
+    InRules(u8),
 }
 
 /// An index on a table, as changes of rows need it.
@@ -46,7 +48,7 @@ pub fn looks_at(index: &TableIndex, place: usize) -> bool
     ensures { result ≡ noted_looks (noted_by index.now.noting) place }
 {
     match &index.noting {
-        Noting::InContext(column) => place == usize::from(*column),
+        Noting::InContext(column) | Noting::InRules(column) => place == usize::from(*column),
         Noting::InCatalogue(catalogue, places) => {
             place == usize::from(catalogue.target.column) || has_place(places.as_slice(), place)
         }
@@ -86,7 +88,7 @@ fn needs_its_values(index: &TableIndex) -> bool
     ensures { result ≡ needs_its_values (noted_by index.now.noting) }
 {
     match &index.noting {
-        Noting::InContext(_) => false,
+        Noting::InContext(_) | Noting::InRules(_) => false,
         Noting::InCatalogue(_, _) => true,
     }
 }
@@ -152,7 +154,7 @@ fn copy_of(name: &Name) -> Result<Name, Memory>
     Ok(copy)
 }
 
-/// The index with this head on a table with these columns; None where it is of a kind that is told of no row.
+/// The index with this head on a table with these columns; None where its entry is that of no catalogue.
 fn table_index<K: Keeper>(
     alloc: Global,
     keeper: &mut K,
@@ -172,7 +174,10 @@ fn table_index<K: Keeper>(
             Ok(Some(TableIndex { name, noting }))
         }
         IndexKind::Catalogue => catalogue_on(alloc, keeper, name, columns),
-        IndexKind::Rules => Ok(None),
+        IndexKind::Rules => {
+            let noting = Noting::InRules(head.target.column);
+            Ok(Some(TableIndex { name, noting }))
+        }
     }
 }
 

@@ -1,13 +1,14 @@
 //! What a statement tells the indexes on a table of a row.
 #![tactic(auto, using(ct_keep::specs::laws::Composing::reads_on, ct_keep::specs::laws::Composing::reads_short))]
 
-ghost use Rattle.std.specs.Prelude.{◌≡◌, ◌≤◌, ℕ, List, Option, IfOk, Err, length, true, false};
+ghost use Rattle.std.specs.Prelude.{◌≡◌, ◌≤◌, ℕ, List, [], Option, IfOk, OnOk, Err, length, true, false};
 ghost use Rattle.std.specs.List.{list_all};
 ghost use Rattle.ct_base.specs.Limits.{sub_index_limit};
 ghost use Rattle.ct_keep.specs.KeeperViews.{Finds, OnlyReads, ReadsKeeper, Told};
 ghost use Rattle.ct_keep.specs.Looks.{LooksAtMost, no_looks};
 ghost use Rattle.ct_entry.specs.Keys.{Key, at};
 ghost use Rattle.ct_entry.specs.Changes.{spell};
+ghost use Rattle.ct_entry.specs.Removals.{OnlyRemoves};
 ghost use Rattle.ct_entry.specs.Shapes.{AreShaped};
 ghost use Rattle.tb_table.specs.Tables.{text_in_column};
 ghost use Rattle.tx_settings.specs.Attributes.{can_be_set};
@@ -21,8 +22,13 @@ ghost use Rattle.cat_index.specs.Filings.{IsShortOrNone, fit_sub_index};
 ghost use Rattle.cat_index.specs.Catalogues.{filing_at};
 ghost use Rattle.cat_index.specs.Changes.{filing_changes, set_changes};
 ghost use Rattle.cat_index.specs.Shapes.{HasCatalogueValue, IsFiling};
+ghost use Rattle.rule_index.specs.Changes.{Adds as AddsRules, rule_changes};
+ghost use Rattle.rule_index.specs.Matching.{rule_looks};
+ghost use Rattle.rule_index.specs.Sees.{ToldRules};
+ghost use Rattle.rule_index.specs.Shapes.{HasRuleValue, KeepsShape as KeepsRuleShape};
+ghost use Rattle.rule_index.specs.Spelling.{anchors_at};
 ghost use Rattle.ix_indexes.specs.declared.loading.Noting.TheVariants.{InCatalogue as HeldCatalogue};
-ghost use Rattle.ix_indexes.specs.Noting.{AllCanTell, CanTell, IsToldBy, all_noted_changes, any_needs_values, needs_values as needs_its_values, noted_by, noted_changes, noted_indexes};
+ghost use Rattle.ix_indexes.specs.Noting.{AllCanTell, AllDrop, AreHeld, CanTell, IsGoing, IsHeld, IsToldBy, all_noted_changes, any_needs_values, needs_values as needs_its_values, noted_by, noted_changes, noted_index, noted_indexes, noted_looks_up, rules_read};
 ghost use Rattle.ix_indexes.specs.Shapes.{HasIndexValue};
 
 use crate::loading::{Noting, TableIndex};
@@ -30,6 +36,7 @@ use cat_index::{Catalogue, Filing, row_comes, row_filing, row_goes, row_is_set};
 use ct_base::{Listed, Memory, Name, RowKey, Value};
 use ct_keep::{Batch, KeepFault, Keeper};
 use ix_context::{ContextFault, note_delete, note_insert, note_update};
+use rule_index::Rules;
 use std::alloc::Global;
 
 /// What a statement does to a row, with the values that it has behind its key before and after.
@@ -89,6 +96,52 @@ fn context_notes<K: Keeper>(
         Err(ContextFault::Disk) => Err(KeepFault::Disk),
         Err(ContextFault::TooMany) => unreachable!(),
     }
+}
+
+/// Adds the changes of a row in a rule index.
+fn note_in_rules<K: Keeper>(
+    alloc: Global,
+    keeper: &mut K,
+    batch: &mut Batch,
+    index: &Name,
+    row: RowKey,
+    event: RowEvent<'_>,
+) -> Result<(), KeepFault>
+    requires { (K.view keeper.old).ready }
+    ensures changes { ToldRules K.view keeper.old index.now (λ m t x. (c : RowChange) → IsToldBy event.entry false row.0 c → AddsRules batch.old batch.new result (rule_changes index.now c.row c.old c.new (anchors_at (at m) index.now c.row))) }
+    ensures removes { IsGoing event.entry → OnOk result (OnlyRemoves batch.old batch.new) }
+    ensures shaped { KeepsRuleShape batch.old batch.new result }
+    ensures reads { OnlyReads K.view keeper.old keeper.new result }
+    ensures at_most { LooksAtMost K.view keeper.old keeper.new (rule_looks 1) }
+{
+    match event {
+        RowEvent::Comes(_) => {
+            Rules::note_insert(alloc, batch, index, row)?;
+            Ok(())
+        }
+        RowEvent::Changes(_, _) => Rules::note_update(alloc, keeper, batch, index, row),
+        RowEvent::Goes(_) => Rules::note_delete(alloc, keeper, batch, index, row),
+    }
+}
+
+/// The changes of a row in a rule index.
+fn rule_notes<K: Keeper>(
+    alloc: Global,
+    keeper: &mut K,
+    index: &Name,
+    row: RowKey,
+    event: RowEvent<'_>,
+) -> Result<Batch, KeepFault>
+    requires { (K.view keeper.old).ready }
+    ensures changes { ToldRules K.view keeper.old index.now (λ m t x. (c : RowChange) → IsToldBy event.entry false row.0 c → IfOk result (λ notes. notes ≡ spell (rule_changes index.now c.row c.old c.new (anchors_at (at m) index.now c.row)))) }
+    ensures removes { IsGoing event.entry → IfOk result (OnlyRemoves []) }
+    ensures shaped { IfOk result (AreShaped HasRuleValue) }
+    ensures reads { OnlyReads K.view keeper.old keeper.new result }
+    ensures at_most { LooksAtMost K.view keeper.old keeper.new (rule_looks 1) }
+{
+    let mut notes = Batch::new(alloc);
+    note_in_rules(alloc, keeper, &mut notes, index, row, event)?;
+    Ok(notes)
 }
 
 /// What a row with these values has in a catalogue.
@@ -196,10 +249,11 @@ fn index_notes<K: Keeper>(
 ) -> Result<Batch, KeepFault>
     requires ready { (K.view keeper.old).ready }
     requires can { CanTell index.now }
-    ensures changes { Finds K.view keeper.old result (λ m notes. (c : RowChange) → IsToldBy event.entry (needs_its_values (noted_by index.now.noting)) row.0 c → notes ≡ spell (noted_changes (at m) c index.now.name (noted_by index.now.noting))) }
+    ensures changes { Finds K.view keeper.old result (λ m notes. IsHeld m (noted_index index.now) → (c : RowChange) → IsToldBy event.entry (needs_its_values (noted_by index.now.noting)) row.0 c → notes ≡ spell (noted_changes (at m) c index.now.name (noted_by index.now.noting))) }
+    ensures drops { Finds K.view keeper.old result (λ m notes. IsGoing event.entry → (c : RowChange) → IsToldBy event.entry (needs_its_values (noted_by index.now.noting)) row.0 c → AllDrop notes) }
     ensures shaped { IfOk result (AreShaped HasIndexValue) }
     ensures reads { OnlyReads K.view keeper.old keeper.new result }
-    ensures at_most { LooksAtMost K.view keeper.old keeper.new no_looks }
+    ensures at_most { LooksAtMost K.view keeper.old keeper.new (rule_looks (rules_read (noted_by index.now.noting))) }
 {
     match &index.noting {
         Noting::InContext(_) => context_notes(alloc, keeper, &index.name, row, event),
@@ -208,14 +262,16 @@ fn index_notes<K: Keeper>(
             let notes = catalogue_notes(alloc, &index.name, catalogue, places, row, event)?;
             Ok(notes)
         }
+        Noting::InRules(_) => rule_notes(alloc, keeper, &index.name, row, event),
     }
 }
 
 /// The changes of a row in each of these indexes.
 ///
 /// A CONTEXT index takes one look-up, of the row's document, and none for a row that comes. A catalogue takes none: its changes are by the
-/// values that the event has, at the cost of reading the row's text. Where no index is a catalogue (`needs_values`), these values may be
-/// any. No text and no posting is looked up. It never answers Full.
+/// values that the event has, at the cost of reading the row's text. A rule index takes one look-up, of the row's rule, and none for a row
+/// that comes. Where no index is a catalogue (`needs_values`), the values of the event may be any. No text and no posting is looked up. It
+/// never answers Full.
 pub fn row_notes<K: Keeper>(
     alloc: Global,
     keeper: &mut K,
@@ -225,10 +281,11 @@ pub fn row_notes<K: Keeper>(
 ) -> Result<Batch, KeepFault>
     requires ready { (K.view keeper.old).ready }
     requires can { AllCanTell indexes.now }
-    ensures changes { Finds K.view keeper.old result (λ m notes. (c : RowChange) → IsToldBy event.entry (any_needs_values indexes.now) row.0 c → notes ≡ spell (all_noted_changes (at m) c (noted_indexes indexes.now))) }
+    ensures changes { Finds K.view keeper.old result (λ m notes. AreHeld m (noted_indexes indexes.now) → (c : RowChange) → IsToldBy event.entry (any_needs_values indexes.now) row.0 c → notes ≡ spell (all_noted_changes (at m) c (noted_indexes indexes.now))) }
+    ensures drops { Finds K.view keeper.old result (λ m notes. IsGoing event.entry → (c : RowChange) → IsToldBy event.entry (any_needs_values indexes.now) row.0 c → AllDrop notes) }
     ensures shaped { IfOk result (AreShaped HasIndexValue) }
     ensures reads { OnlyReads K.view keeper.old keeper.new result }
-    ensures at_most { LooksAtMost K.view keeper.old keeper.new no_looks }
+    ensures at_most { LooksAtMost K.view keeper.old keeper.new (noted_looks_up (noted_indexes indexes.now)) }
 {
     let mut notes = Batch::new(alloc);
     let mut rest = indexes;

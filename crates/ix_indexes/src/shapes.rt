@@ -7,6 +7,7 @@ use cat_index::is_catalogue_shape;
 use ct_base::Memory;
 use ct_entry::Kind;
 use ix_context::is_context_shape;
+use rule_index::is_rule_shape;
 use std::alloc::Global;
 
 /// Whether a key of this kind may have this rest, and an entry of an index under it this value, whatever the kind of the index. No
@@ -19,5 +20,8 @@ pub fn is_index_shape(alloc: Global, kind: Kind, part: &[u8], value: &[u8]) -> R
     if is_context_shape(alloc, kind, part, value)? {
         return Ok(true);
     }
-    is_catalogue_shape(alloc, kind, part, value)
+    if is_catalogue_shape(alloc, kind, part, value)? {
+        return Ok(true);
+    }
+    is_rule_shape(alloc, kind, part, value)
 }

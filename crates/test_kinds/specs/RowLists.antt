@@ -16,7 +16,9 @@ use Rattle.ix_kinds.specs.Rows.{row_keys_of}
 use Rattle.ix_kinds.specs.Indextypes.{IndexOf, Indextype}
 use Rattle.ix_kinds.specs.IndextypeLaws.{IndextypeLaws}
 use Rattle.ix_kinds.specs.Sums.{either}
-use Rattle.ix_indexes.specs.Indexes.{Defined, kinds}
+use Rattle.ix_context.specs.Contexts.{context}
+use Rattle.cat_index.specs.Kind.{catalogue}
+use Rattle.ix_indexes.specs.Indexes.{Defined}
 
 -- the entries of an index, beside its own
 abbrev pub is_list : Kind → Bool
@@ -81,9 +83,9 @@ row_lists {D} = record {
 abbrev pub RowListsKeepTheLaws : Type 0
 RowListsKeepTheLaws = IndextypeLaws (row_lists {D = Defined})
 
--- so does a store that has the kinds that are built, and beside them lists of rows
+-- so does a store that has lists of rows, with their kind in the heads of indexes, in place of rule indexes
 abbrev pub KindsWithRowListsKeepTheLaws : Type 0
-KindsWithRowListsKeepTheLaws = IndextypeLaws (either kinds (row_lists {D = Defined}))
+KindsWithRowListsKeepTheLaws = IndextypeLaws (either (context {D = Defined}) (either catalogue row_lists))
 
 -- computed examples: the row 7 comes, and goes
 it_comes : list_change (codes "li") (pos 7) false true ≡ put_value (key kind.Rules (codes "li") (row_part (pos 7))) [] ∷ []

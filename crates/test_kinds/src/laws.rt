@@ -7,7 +7,7 @@ pub fn row_lists_keep_the_laws()
     ensures { RowListsKeepTheLaws }
 {}
 
-/// So does the sum of the kinds that are built and of lists of rows, of which a store could have both.
+/// So does the sum of lists of rows and of the kinds CONTEXT and CTXCAT, of which a store could have all three.
 pub fn kinds_with_row_lists_keep_the_laws()
     ensures { KindsWithRowListsKeepTheLaws }
 {}

@@ -90,7 +90,6 @@ none_named {X} rule = record {
 pub empty_stands : StandsForState empty empty_state
 empty_stands = record {
   only = λ b some. absurd (false≢true (subst (λ (o : Option (List ℕ)). IsSome o) (not_there b) some));
-  unbuilt = λ k h. not_there (bytes k);
   tables = tables_stand;
   indexes = indexes_stand;
   preferences = record { lexers = nothing_named kind.Preferences settings_bytes; stoplists = nothing_named kind.Stoplists words_bytes; groups = nothing_named kind.SectionGroups group_bytes; sets = nothing_named kind.IndexSets set_bytes };

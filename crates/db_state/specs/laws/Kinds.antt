@@ -1,4 +1,4 @@
--- Which kinds of entries are of tables, of indexes, and of the rows of documents: no kind is of two of these, and all are built.
+-- Which kinds of entries are of tables, of indexes, and of the rows of documents: no kind is of two of these.
 use Rattle.std.specs.Prelude.{◌≡◌, true, false, refl}
 use Rattle.ct_entry.specs.declared.kinds.Kind.{Kind}
 use Rattle.ct_entry.specs.declared.kinds.Kind.TheVariants as kind
@@ -6,7 +6,7 @@ use Rattle.tb_table.specs.laws.Changes.{is_of_tables}
 use Rattle.ix_indexes.specs.laws.Noting.{is_noted}
 use Rattle.ix_kinds.specs.Standing.{is_of_indexes}
 use Rattle.ix_context.specs.Spelling.{is_of_context}
-use Rattle.db_state.specs.States.{is_built, is_of_rows}
+use Rattle.db_state.specs.States.{is_of_rows}
 
 pub tables_no_indexes : (k : Kind) → is_of_tables k ≡ true → is_of_indexes k ≡ false
 tables_no_indexes kind.Tables h = refl
@@ -20,15 +20,6 @@ tables_no_context kind.RowNumbers h = refl
 tables_no_context kind.RowTexts h = refl
 tables_no_context k h = cc
 
-pub context_built : (k : Kind) → is_built k ≡ false → is_of_context k ≡ false
-context_built kind.Indexes h = cc
-context_built kind.DocumentRows h = cc
-context_built kind.RowDocuments h = cc
-context_built kind.Pending h = cc
-context_built kind.Postings h = cc
-context_built kind.Spans h = cc
-context_built k h = refl
-
 -- ---- what a change of a row puts for the indexes
 
 pub tables_no_noted : (k : Kind) → is_of_tables k ≡ true → is_noted k ≡ false
@@ -36,13 +27,6 @@ tables_no_noted kind.Tables h = refl
 tables_no_noted kind.RowNumbers h = refl
 tables_no_noted kind.RowTexts h = refl
 tables_no_noted k h = cc
-
-pub noted_built : (k : Kind) → is_built k ≡ false → is_noted k ≡ false
-noted_built kind.DocumentRows h = cc
-noted_built kind.RowDocuments h = cc
-noted_built kind.Pending h = cc
-noted_built kind.Catalogue h = cc
-noted_built k h = refl
 
 pub noted_rows : (k : Kind) → is_of_rows k ≡ true → is_noted k ≡ false
 noted_rows kind.Postings h = refl

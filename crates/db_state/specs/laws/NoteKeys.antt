@@ -30,8 +30,13 @@ use Rattle.cat_index.specs.Shapes.{IsFiling}
 use Rattle.cat_index.specs.laws.Kind.{catalogue_laws}
 use Rattle.db_state.specs.laws.CatalogueKeys.{row_changes_are}
 use Rattle.cat_index.specs.laws.Well.{filings_fit}
-use Rattle.ix_indexes.specs.Indexes.{Body, Defined, Index, StandsUnder, as_catalogue, as_index, kinds}
-use Rattle.ix_indexes.specs.laws.Indexes.{catalogue_is, context_is}
+use Rattle.rule_index.specs.Spelling.{anchors_at}
+use Rattle.rule_index.specs.laws.Kind.{anchors_are}
+use Rattle.rule_index.specs.laws.Shapes.{AreShort}
+use Rattle.db_state.specs.laws.RuleKeys.{mark_anchors_short, rules_are_keys}
+use Rattle.ix_indexes.specs.Indexes.{Body, Defined, Index, StandsUnder, as_catalogue, as_index, as_rules, kinds}
+use Rattle.ix_indexes.specs.laws.Indexes.{catalogue_is, context_is, rules_are, rules_at}
+use Rattle.rule_index.specs.RuleIndexes.{RuleIndex, mark_of}
 
 -- ---- in a CONTEXT index, by a document that keys may have
 
@@ -79,6 +84,12 @@ module _ (f : Key → Option (List ℕ)) (ts us : Tables) (xs : Names Index) (t 
     is_filed : (vs : List Value) → row_at us t r ≡ Some vs → IsFiling (filing x r vs)
     is_filed vs here = filings_fit (table_at us t) x is_table (hold.rules.each i (as_catalogue x) is).prefs is_catalogue r vs (row_of_table us t r ∙ here)
 
+  -- the keys under which its rule was filed in a rule index
+  anchors_few : (i : List ℕ) (x : RuleIndex) → get xs i ≡ Some (as_rules x) → AreShort (anchors_at f i r)
+  anchors_few i x is =
+      let rules = rules_are ts x (hold.rules.each i (as_rules x) is) in
+      subst AreShort (sym (anchors_are f i x r row (rules.each r) (rules_at f ts xs hold.stand i x is))) (mark_anchors_short (mark_of x r) (rules.each r))
+
   one_are : (columns : List Column) (i : List ℕ) (x : Index) → get xs i ≡ Some x → x.table ≡ t → AreChanges (row_changes_in kinds f columns (row_change ts us t r) i (Some x))
   one_are columns i x is on = go x.body refl
     where
@@ -87,7 +98,9 @@ module _ (f : Key → Option (List ℕ)) (ts us : Tables) (xs : Names Index) (t 
 
       go : (b : Body) → x.body ≡ b → AreChanges (row_changes_in kinds f columns (row_change ts us t r) i (Some (with_body x b)))
       go (inl c) body = context_are i r (row_at ts t r) (row_at us t r) (document_at f i r) name row (document_few i (with_body x c) (is ∙ ap (λ (b : Body). Some (with_body x b)) body))
-      go (inr c) body =
+      go (inr (inr b)) body =
+          rules_are_keys i r name row (row_at ts t r) (row_at us t r) (anchors_at f i r) (anchors_few i (with_body x b) (is ∙ ap (λ (b : Body). Some (with_body x b)) body))
+      go (inr (inl c)) body =
           let here : get xs i ≡ Some (as_catalogue (with_body x c)) = is ∙ ap (λ (b : Body). Some (with_body x b)) body in
           row_changes_are i r name row (with_body x c) (row_at ts t r) (row_at us t r) (was_filed i (with_body x c) here on) (is_filed i (with_body x c) here on)
 

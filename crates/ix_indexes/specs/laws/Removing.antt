@@ -158,14 +158,3 @@ pub told_all : (m : Content) (names : List (List ℕ)) (k : Key) (old : Option (
 told_all m [] k old v is = is
 told_all m (i ∷ is) k old v has =
     told_one i m k old v (told_all m is k (told (index_removals i m) k old) v (sym (told-append (index_removals i m) (remove_all_changes m is) k old) ∙ has))
-
--- so where nothing was, nothing is
-none_left : (o old : Option (List ℕ)) → ((v : List ℕ) → o ≡ Some v → old ≡ Some v) → old ≡ None → o ≡ None
-none_left None old was none = refl
-none_left (Some v) old was none = let wrong : None ≡ Some v = sym none ∙ was v refl in cc
-
-pub none_one : (i : List ℕ) (m : Content) (k : Key) (old : Option (List ℕ)) → old ≡ None → told (index_removals i m) k old ≡ None
-none_one i m k old none = none_left (told (index_removals i m) k old) old (told_one i m k old) none
-
-pub none_all : (m : Content) (names : List (List ℕ)) (k : Key) (old : Option (List ℕ)) → old ≡ None → told (remove_all_changes m names) k old ≡ None
-none_all m names k old none = none_left (told (remove_all_changes m names) k old) old (told_all m names k old) none

@@ -1,6 +1,6 @@
 use Rattle.std.proofs.Common.{◌∷◌, [], ◌∙◌}
-use Rattle.ix_indexes.specs.Noting.{InContext}
-use Rattle.ix_indexes.proofs.LoadSteps.{context_noted, catalogue_here, no_rules, noted_result}
+use Rattle.ix_indexes.specs.Noting.{InContext, InRules}
+use Rattle.ix_indexes.proofs.LoadSteps.{context_noted, catalogue_here, rules_noted, noted_result}
 use Rattle.ix_indexes.proofs.loading.table_index.Goals as goal
 
 pub returns-in-Context-clause-noted : goal.returns-in-Context-clause-noted
@@ -14,4 +14,5 @@ returns-in-Catalogue-clause-noted g c = λ m ts xs told hold is.
     (λ named. c.catalogue_on.ensures.noted m ts xs told hold x.0 named x.2)
 
 pub returns-in-Rules-clause-noted : goal.returns-in-Rules-clause-noted
-returns-in-Rules-clause-noted g c = λ m ts xs told hold is. no_rules ts xs c.args.columns.now c.args.index.now c.args.head.now is c.in-Rules.is
+returns-in-Rules-clause-noted g c = λ m ts xs told hold is.
+    (λ j. (c.in_ok-name.ensures j, InRules c.args.head.now.target.column) ∷ []) ∙ rules_noted ts xs c.args.columns.now c.args.index.now c.args.head.now is c.in-Rules.is
