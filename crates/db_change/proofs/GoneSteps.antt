@@ -3,7 +3,6 @@ use Rattle.std.proofs.Common.{◌≡◌, ℕ, ℤ, zero, suc, pos, ◌+◌, ◌<
 use Rattle.std.specs.Prelude.{is_some}
 use Rattle.std.specs.FinMap.{get}
 use Rattle.std.proofs.lemmas.List.{take_more, take_all, map-append, length-map}
-use Rattle.ct_base.specs.declared.lists.Value.{Value}
 use Rattle.ct_base.specs.declared.numbers.RowKey.{RowKey}
 use Rattle.ct_keep.specs.Content.{Content, after}
 use Rattle.ct_entry.specs.Keys.{Key, at}
@@ -20,7 +19,8 @@ use Rattle.tb_table.specs.Tables.{Table, row_in}
 use Rattle.tb_table.specs.Spelling.{delete_changes}
 use Rattle.tb_table.specs.Shapes.{HasTableValue}
 use Rattle.cat_index.specs.Sees.{AreThere}
-use Rattle.ix_indexes.specs.Noting.{Noted, all_noted_changes}
+use Rattle.ix_indexes.specs.Noting.{AllDrop, Noted}
+use Rattle.ix_indexes.specs.laws.Dropping.{drop-append, drop_spelt}
 use Rattle.ix_indexes.specs.Shapes.{HasIndexValue}
 use Rattle.db_cond.specs.declared.faults.Fault.{Fault}
 use Rattle.db_cond.specs.Faults.{UnknownName}
@@ -32,9 +32,9 @@ use Rattle.db_state.specs.Effects.{Effect, Refused, Does, Checks, with_found}
 use Rattle.db_state.specs.Shapes.{AreStoreChanges, HasStoreValue}
 use Rattle.db_change.proofs.ShapeSteps.{row_and_notes, shaped_alone}
 use Rattle.db_change.specs.Noting.{noted_on}
-use Rattle.db_change.specs.Deleting.{AllDrop, delete_from, delete_rows, going, gone_rows_changes, rows_deleted, without_rows}
+use Rattle.db_change.specs.Deleting.{delete_from, delete_rows, gone_rows_changes, rows_deleted, without_rows}
 use Rattle.db_change.specs.laws.MetRows.{met_apart, met_there}
-use Rattle.db_change.specs.laws.GoneRows.{gone_rows_stand, delete_drops, drop-append, drop_spelt, notes_drop}
+use Rattle.db_change.specs.laws.GoneRows.{gone_rows_stand, delete_drops}
 
 -- ---- the changes of each of several, one after the other
 
@@ -67,12 +67,12 @@ row_made a b empty own notes new none changes noted is =
     ∙ sym (spell-append a b)
 
 -- those of a row that goes only take entries away
-pub row_drops : (f : Key → Option (List ℕ)) (t : List ℕ) (columns : List Column) (r : ℤ) (old : Option (List Value)) (es : List (List ℕ × Noted)) (empty own notes new : List (List ℕ × Option (List ℕ))) → empty ≡ []
-    → own ≡ empty ++ spell (delete_changes t columns r) → notes ≡ spell (all_noted_changes f (going r old) es) → new ≡ own ++ notes → AllDrop new
-row_drops f t columns r old es empty own notes new none changes noted is =
-    let a = delete_changes t columns r in
-    let b = all_noted_changes f (going r old) es in
-    subst AllDrop (sym (row_made a b empty own notes new none changes noted is)) (drop_spelt (a ++ b) (drop-append a b (delete_drops t columns r) (notes_drop f r old es)))
+pub row_drops : (t : List ℕ) (columns : List Column) (r : ℤ) (empty own notes new : List (List ℕ × Option (List ℕ))) → empty ≡ []
+    → own ≡ empty ++ spell (delete_changes t columns r) → AllDrop notes → new ≡ own ++ notes → AllDrop new
+row_drops t columns r empty own notes new none changes dropped is =
+    let rows = drop_spelt (delete_changes t columns r) (delete_drops t columns r) in
+    let of_table : AllDrop own = subst AllDrop (sym (changes ∙ ap (λ (ws : List (List ℕ × Option (List ℕ))). ws ++ spell (delete_changes t columns r)) none)) rows in
+    subst AllDrop (sym is) (drop-append own notes of_table dropped)
 
 pub row_shaped : (a : List (Key × Option (List ℕ))) (empty own notes new : List (List ℕ × Option (List ℕ))) → empty ≡ [] → own ≡ empty ++ spell a
     → AreShaped HasTableValue (spell a) → AreShaped HasIndexValue notes → new ≡ own ++ notes → AreStoreChanges new

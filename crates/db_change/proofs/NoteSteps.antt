@@ -27,11 +27,12 @@ use Rattle.ix_kinds.specs.Rows.{table_at, table_or_none}
 use Rattle.ix_indexes.specs.declared.loading.TableIndex.{TableIndex}
 use Rattle.ix_indexes.specs.Indexes.{Index}
 use Rattle.ix_indexes.specs.Loading.{AreHeadsOf}
-use Rattle.ix_indexes.specs.Noting.{AllCanTell, HasShortTexts, HoldsIndexes, Noted, noted_by, noted_index, noted_indexes, noted_looks_any}
+use Rattle.ix_indexes.specs.laws.Held.{noted_held, some_held}
+use Rattle.ix_indexes.specs.Noting.{AllCanTell, AreHeld, HasShortTexts, HoldsIndexes, Noted, noted_by, noted_index, noted_indexes, noted_looks_any}
 use Rattle.db_state.specs.States.{StoreState, StandsForState}
 use Rattle.db_state.specs.laws.Heads.{heads_stand, store_heads}
 use Rattle.db_change.specs.Inserting.{IsShortValue, kept_value}
-use Rattle.db_change.specs.Noting.{heads_on, is_short_value, noted_set}
+use Rattle.db_change.specs.Noting.{heads_on, is_short_value, names_on, noted_on, noted_set}
 use Rattle.db_change.specs.Updating.{IsShortAssign, set_in, updated_values, value_after}
 use Rattle.db_change.specs.laws.NewRows.{indexes_hold}
 
@@ -48,6 +49,13 @@ heads_are ts xs t x here (e ∷ es) all =
 module _ (c : Content) (m : StoreState) (t : List ℕ) (stands : StandsForState c m) where
   pub holds_indexes : HoldsIndexes c m.tables m.indexes
   holds_indexes = record { only = stands.only; tables = stands.tables; hold = indexes_hold c m stands }
+
+  -- the content holds what was noted of the indexes on a table, and of those that look at some columns
+  pub on_held : (es : List (List ℕ × Noted)) → es ≡ noted_on m.indexes t → AreHeld c es
+  on_held es is = subst (AreHeld c) (sym is) (noted_held c m.tables m.indexes holds_indexes (names_on m.indexes t))
+
+  pub set_held : (places : List ℕ) (es : List (List ℕ × Noted)) → es ≡ noted_set places (noted_on m.indexes t) → AreHeld c es
+  set_held places es is = subst (AreHeld c) (sym is) (some_held c (λ e. noted_looks_any places e.1) (noted_on m.indexes t) (on_held (noted_on m.indexes t) refl))
 
   module _ (shown found : List (List ℕ × IndexHead)) (same : shown ≡ found) (are : AreIndexesOf (at c) t found) where
     pub found_heads : shown ≡ heads_on m.indexes t

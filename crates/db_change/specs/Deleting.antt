@@ -1,5 +1,5 @@
 -- What DELETE does.
-use Rattle.std.specs.Prelude.{ℕ, ℤ, false, List, [], ◌∷◌, ◌++◌, length, Option, Some, None, codes, ◌≡◌, refl}
+use Rattle.std.specs.Prelude.{ℕ, ℤ, false, List, [], ◌++◌, length, Option, Some, None, codes, ◌≡◌, refl}
 use Rattle.std.specs.FinMap.{get}
 use Rattle.ct_base.specs.declared.lists.Value.{Value}
 use Rattle.st_parse.specs.declared.statements.Cond.{Cond}
@@ -17,9 +17,11 @@ use Rattle.ix_kinds.specs.Indextypes.{IndexOf}
 use Rattle.ix_kinds.specs.Statements.{tables_after, every, indexes_after}
 use Rattle.cat_index.specs.Catalogues.{CatalogueBody, filing}
 use Rattle.cat_index.specs.Changes.{filing_changes}
+use Rattle.rule_index.specs.Changes.{gone_changes as rule_gone}
+use Rattle.rule_index.specs.Spelling.{anchors_at}
 use Rattle.ix_indexes.specs.Indexes.{kinds}
 use Rattle.ix_indexes.specs.declared.loading.TableIndex.{TableIndex}
-use Rattle.ix_indexes.specs.Noting.{Noted, InContext, InCatalogue, all_noted_changes, noted_changes, noted_indexes}
+use Rattle.ix_indexes.specs.Noting.{Noted, InContext, InCatalogue, InRules, all_noted_changes, noted_changes, noted_indexes}
 use Rattle.db_cond.specs.Faults.{UnknownName}
 use Rattle.db_cond.specs.Lines.{rows_line}
 use Rattle.db_rows.specs.Checking.{check_conds}
@@ -65,11 +67,6 @@ TakesRow m c t columns indexes r batch = batch ≡ spell (gone_row_changes (at c
 abbrev pub TakesRows : StoreState → Content → List ℕ → List Column → List TableIndex → List ℤ → List (List ℕ × Option (List ℕ)) → Type 0
 TakesRows m c t columns indexes rows batch = batch ≡ spell (gone_rows_changes (at c) m.tables t columns (noted_indexes indexes) rows)
 
--- Each change takes an entry away.
-abbrev pub AllDrop : {A : Type 0} → List (A × Option (List ℕ)) → Type 0
-AllDrop [] = Unit {0}
-AllDrop (w ∷ ws) = (w.1 ≡ None) × AllDrop ws
-
 -- computed examples: where no row meets the conditions, nothing is changed
 nothing_to_delete : (m : StoreState) (t : List ℕ) → without_rows m t [] ≡ m
 nothing_to_delete m t = refl
@@ -77,10 +74,15 @@ nothing_to_delete m t = refl
 no_changes : (f : Key → Option (List ℕ)) (ts : Tables) (t : List ℕ) (columns : List Column) (indexes : List (List ℕ × Noted)) → gone_rows_changes f ts t columns indexes [] ≡ []
 no_changes f ts t columns indexes = refl
 
--- a row goes from a CONTEXT index where it is the document that the entries before name, or waits; and from a catalogue by its values
+-- a row goes from a CONTEXT index where it is the document that the entries before name, or waits; from a catalogue by its values; and from a rule index under
+-- the keys that the entry of its rule tells
 from_an_index : (f : Key → Option (List ℕ)) (i : List ℕ) (column : ℕ) (r : ℤ) (vs : List Value) → noted_changes f (going r (Some vs)) i (InContext column) ≡ gone_changes i r (document_at f i r)
 from_an_index f i column r vs = refl
 
 from_a_catalogue : (f : Key → Option (List ℕ)) (i : List ℕ) (x : IndexOf CatalogueBody) (r : ℤ) (vs : List Value)
     → noted_changes f (going r (Some vs)) i (InCatalogue x) ≡ filing_changes i r (filing x r vs) false
 from_a_catalogue f i x r vs = refl
+
+from_a_rule_index : (f : Key → Option (List ℕ)) (i : List ℕ) (column : ℕ) (r : ℤ) (vs : List Value)
+    → noted_changes f (going r (Some vs)) i (InRules column) ≡ rule_gone i r (anchors_at f i r)
+from_a_rule_index f i column r vs = refl

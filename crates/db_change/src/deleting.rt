@@ -1,17 +1,17 @@
 //! DELETE.
 #![tactic(auto, using(ct_keep::specs::laws::Composing::reads_on, ct_keep::specs::laws::Composing::reads_short, ct_keep::specs::laws::Composing::accepts_on))]
 
-ghost use Rattle.std.specs.Prelude.{◌≡◌, ◌≤◌, IfOk, Some, None, Err, length, map};
+ghost use Rattle.std.specs.Prelude.{◌≡◌, ◌≤◌, IfOk, Some, None, Err, length};
 ghost use Rattle.ct_base.specs.Limits.{column_limit};
 ghost use Rattle.ct_keep.specs.KeeperViews.{Finds, OnlyReads, Told};
 ghost use Rattle.ct_entry.specs.Keys.{at};
-ghost use Rattle.ix_indexes.specs.Noting.{AllCanTell};
+ghost use Rattle.ix_indexes.specs.Noting.{AllCanTell, AllDrop, AreHeld, noted_indexes};
 ghost use Rattle.db_rows.specs.Checking.{check_conds};
 ghost use Rattle.db_state.specs.Effects.{Effect, Checks};
 ghost use Rattle.db_state.specs.Plans.{IsPlanOf, IsRemoval, IsStorePlan, Replies};
 ghost use Rattle.db_state.specs.Shapes.{AcceptsStatements, AreStoreChanges};
 ghost use Rattle.db_change.specs.Noting.{WhereRow, WhereRows};
-ghost use Rattle.db_change.specs.Deleting.{AllDrop, delete_from as delete_from_effect, rows_deleted, TakesRow, TakesRows};
+ghost use Rattle.db_change.specs.Deleting.{delete_from as delete_from_effect, rows_deleted, TakesRow, TakesRows};
 
 use crate::noting::{indexes_on, values_needed};
 use ct_base::{COLUMN_LIMIT, Name, RowKey};
@@ -36,7 +36,7 @@ fn row_changes<K: Keeper>(
     requires ready { (K.view keeper.old).ready }
     requires few { length columns.now ≤ column_limit }
     requires can { AllCanTell indexes.now }
-    ensures changes { WhereRow K.view keeper.old table.now columns.now row.0 (λ m c x. IfOk result (TakesRow m c table.now columns.now indexes.now row.0)) }
+    ensures changes { WhereRow K.view keeper.old table.now columns.now row.0 (λ m c x. AreHeld c (noted_indexes indexes.now) → IfOk result (TakesRow m c table.now columns.now indexes.now row.0)) }
     ensures drops { Finds K.view keeper.old result (λ m batch. AllDrop batch) }
     ensures shaped { IfOk result AreStoreChanges }
     ensures reads { OnlyReads K.view keeper.old keeper.new result }
@@ -62,7 +62,7 @@ fn rows_changes<K: Keeper>(
     requires ready { (K.view keeper.old).ready }
     requires few { length columns.now ≤ column_limit }
     requires can { AllCanTell indexes.now }
-    ensures changes { WhereRows K.view keeper.old table.now columns.now rows.now (λ m c rs. IfOk result (TakesRows m c table.now columns.now indexes.now rs)) }
+    ensures changes { WhereRows K.view keeper.old table.now columns.now rows.now (λ m c rs. AreHeld c (noted_indexes indexes.now) → IfOk result (TakesRows m c table.now columns.now indexes.now rs)) }
     ensures drops { Finds K.view keeper.old result (λ m batch. AllDrop batch) }
     ensures shaped { IfOk result AreStoreChanges }
     ensures reads { OnlyReads K.view keeper.old keeper.new result }
@@ -116,10 +116,11 @@ fn delete_plan<'a, K: Keeper>(
 /// always room for it, so Memory and Disk are the only errors.
 ///
 /// Its cost is that of `keys_meeting` for the conditions, of the entries of all indexes, and of what each row has in each index on the
-/// table: in a CONTEXT index the look-up of its document, and in a catalogue the reading of its text, for which its values are looked up
-/// once. A DELETE from a table without catalogues reads no text. So a DELETE of one row by its key costs the same in a table of any size.
-/// Its changes take memory: for each row one, and one more for each column with texts, and at most two for each CONTEXT index; and for
-/// each catalogue as many as the row has words, in the plain sub-index and in each other.
+/// table: in a CONTEXT index the look-up of its document, in a rule index that of its rule, and in a catalogue the reading of its text, for
+/// which its values are looked up once. A DELETE from a table without catalogues reads no text. So a DELETE of one row by its key costs the
+/// same in a table of any size. Its changes take memory: for each row one, and one more for each column with texts, and at most two for each
+/// CONTEXT index; for each rule index three, and one for each key under which its rule is found; and for each catalogue as many as the row
+/// has words, in the plain sub-index and in each other.
 pub fn delete_from<K: Keeper>(
     alloc: Global,
     keeper: &mut K,

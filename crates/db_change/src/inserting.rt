@@ -485,8 +485,8 @@ fn insert_plan<'a, K: Keeper>(
 }
 
 /// INSERT. Its cost is that of the table's columns, of the entries of all indexes, and of the values' bytes, which are copied once. In a
-/// CONTEXT index the row waits, at the cost of one change; for each catalogue its text is read at once, and for all of these its values
-/// are copied once more. The keeper counts the rows of the table, so they aren't read.
+/// CONTEXT index and in a rule index the row waits, at the cost of one change; for each catalogue its text is read at once, and for all of
+/// these its values are copied once more. The keeper counts the rows of the table, so they aren't read.
 pub fn insert_into<K: Keeper>(
     alloc: Global,
     keeper: &mut K,

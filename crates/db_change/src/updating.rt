@@ -1,7 +1,7 @@
 //! UPDATE.
 #![tactic(auto, using(ct_keep::specs::laws::Composing::reads_on, ct_keep::specs::laws::Composing::reads_short, ct_keep::specs::laws::Composing::accepts_on))]
 
-ghost use Rattle.std.specs.Prelude.{◌≡◌, ◌≤◌, ◌<◌, IfOk, Some, [], length, map};
+ghost use Rattle.std.specs.Prelude.{◌≡◌, ◌≤◌, ◌<◌, IfOk, Some, [], length};
 ghost use Rattle.std.specs.List.{All, filter_map, cons_option};
 ghost use Rattle.std.specs.Option.{option_map, option_and_then};
 ghost use Rattle.std.specs.FinMap.{get};
@@ -10,7 +10,7 @@ ghost use Rattle.ct_keep.specs.KeeperViews.{OnlyReads};
 ghost use Rattle.ct_entry.specs.Changes.{spell};
 ghost use Rattle.ct_entry.specs.Shapes.{AreShaped};
 ghost use Rattle.ix_indexes.specs.Shapes.{HasIndexValue};
-ghost use Rattle.ix_indexes.specs.Noting.{AllCanTell, noted_by, noted_indexes, noted_looks_any};
+ghost use Rattle.ix_indexes.specs.Noting.{AllCanTell, AreHeld, noted_by, noted_indexes, noted_looks_any};
 ghost use Rattle.tb_table.specs.Rules.{others};
 ghost use Rattle.tb_table.specs.Shapes.{HasTableValue};
 ghost use Rattle.db_state.specs.Plans.{IsPlanOf, IsStorePlan, Replies};
@@ -239,7 +239,7 @@ fn notes_of_row<K: Keeper>(
     requires ready { (K.view keeper.old).ready }
     requires short { All IsShortAssign assigns.now }
     requires can { AllCanTell indexes.now }
-    ensures notes { WhereRow K.view keeper.old table.now columns.now row.0 (λ m c x. IfOk result (TellsOfRow c x columns.now assigns.now indexes.now row.0)) }
+    ensures notes { WhereRow K.view keeper.old table.now columns.now row.0 (λ m c x. AreHeld c (noted_indexes indexes.now) → IfOk result (TellsOfRow c x columns.now assigns.now indexes.now row.0)) }
     ensures shaped { IfOk result (AreShaped HasIndexValue) }
     ensures reads { OnlyReads K.view keeper.old keeper.new result }
 {
@@ -253,8 +253,9 @@ fn notes_of_row<K: Keeper>(
 
 /// The changes of one row of a table with these columns.
 ///
-/// Its cost is that of the texts that are set, a look-up of its numbers, and one of its document in each CONTEXT index. Only where one
-/// of the indexes is a catalogue its values are looked up, and its text is read once as it was and once as it will be.
+/// Its cost is that of the texts that are set, a look-up of its numbers, one of its document in each CONTEXT index, and one of its rule in
+/// each rule index. Only where one of the indexes is a catalogue its values are looked up, and its text is read once as it was and once as
+/// it will be.
 fn row_batch<K: Keeper>(
     alloc: Global,
     keeper: &mut K,
@@ -268,7 +269,7 @@ fn row_batch<K: Keeper>(
     requires few { length columns.now ≤ column_limit }
     requires short { All IsShortAssign assigns.now }
     requires can { AllCanTell indexes.now }
-    ensures batch { WhereRow K.view keeper.old table.now columns.now row.0 (λ m c x. IfOk result (UpdatesRow c m table.now columns.now assigns.now indexes.now row.0)) }
+    ensures batch { WhereRow K.view keeper.old table.now columns.now row.0 (λ m c x. AreHeld c (noted_indexes indexes.now) → IfOk result (UpdatesRow c m table.now columns.now assigns.now indexes.now row.0)) }
     ensures entries { IfOk result AreStoreChanges }
     ensures reads { OnlyReads K.view keeper.old keeper.new result }
 {
@@ -294,7 +295,7 @@ fn rows_batch<K: Keeper>(
     requires few { length columns.now ≤ column_limit }
     requires short { All IsShortAssign assigns.now }
     requires can { AllCanTell indexes.now }
-    ensures batch { WhereRows K.view keeper.old table.now columns.now rows.now (λ m c rs. IfOk result (UpdatesRows c m table.now columns.now assigns.now indexes.now rs)) }
+    ensures batch { WhereRows K.view keeper.old table.now columns.now rows.now (λ m c rs. AreHeld c (noted_indexes indexes.now) → IfOk result (UpdatesRows c m table.now columns.now assigns.now indexes.now rs)) }
     ensures entries { IfOk result AreStoreChanges }
     ensures reads { OnlyReads K.view keeper.old keeper.new result }
 {
@@ -354,9 +355,9 @@ fn update_plan<'a, K: Keeper>(
 }
 
 /// UPDATE, by at most one commit. Its cost is that of `keys_meeting` for the conditions, of the entries of all indexes, and for each row
-/// of its numbers and of what it has in each index that looks at a column that is set: in a CONTEXT index the look-up of its document,
-/// and in a catalogue the reading of its text as it was and as it is, for which its values are looked up once. An UPDATE of columns that
-/// no catalogue looks at reads no text. So an UPDATE of one row by its key costs as much in any table.
+/// of its numbers and of what it has in each index that looks at a column that is set: in a CONTEXT index the look-up of its document, in
+/// a rule index that of its rule, and in a catalogue the reading of its text as it was and as it is, for which its values are looked up
+/// once. An UPDATE of columns that no catalogue looks at reads no text. So an UPDATE of one row by its key costs as much in any table.
 pub fn update<K: Keeper>(
     alloc: Global,
     keeper: &mut K,

@@ -14,7 +14,7 @@ use Rattle.ct_entry.specs.Keys.{Key, at, same_list, IsRow}
 use Rattle.ct_entry.specs.Each.{each}
 use Rattle.ct_entry.specs.Lists.{IsIn, AreApart}
 use Rattle.ct_entry.specs.Changes.{spell, view, AreChanges, AllOf}
-use Rattle.ct_entry.specs.laws.Changes.{at_view, at-after, only-after, told_frame, view-append, are-append, all-append}
+use Rattle.ct_entry.specs.laws.Changes.{at_view, only-after, view-append, are-append, all-append}
 use Rattle.ct_entry.specs.laws.Each.{all_each}
 use Rattle.ct_entry.specs.laws.Parts.{int_from_eq}
 use Rattle.tb_table.specs.declared.columns.Column.{Column}
@@ -42,7 +42,7 @@ use Rattle.db_rows.specs.Values.{values_behind_key, row_values}
 use Rattle.tx_prefs.specs.Spelling.{PreferencesStand}
 use Rattle.tx_prefs.specs.laws.Changes.{preferences_frame, other_kinds}
 use Rattle.th_store.specs.laws.Changes.{thesauri_unchanged}
-use Rattle.db_state.specs.States.{StoreState, StandsForState, HasShortRows, is_of_rows, is_built, is_view, index_limit}
+use Rattle.db_state.specs.States.{StoreState, StandsForState, HasShortRows, is_of_rows, is_view, index_limit}
 use Rattle.db_state.specs.laws.Kinds.{tables_no_noted}
 use Rattle.db_state.specs.laws.ShortRows.{rows_frame}
 use Rattle.db_change.specs.Updating.{changing, updated_values, places_set, row_updated, with_updates, numbers_after, texts_set, value_changes, update_changes}
@@ -63,16 +63,6 @@ of_tables k h = ap (λ (b : Bool). b || is_noted k) h
 
 of_noted : (k : Kind) → is_noted k ≡ true → is_of_update k ≡ true
 of_noted k h = or_right (is_of_tables k) (is_noted k) h
-
-update_built : (k : Kind) → is_built k ≡ false → is_of_update k ≡ false
-update_built kind.Tables h = cc
-update_built kind.RowNumbers h = cc
-update_built kind.RowTexts h = cc
-update_built kind.DocumentRows h = cc
-update_built kind.RowDocuments h = cc
-update_built kind.Pending h = cc
-update_built kind.Catalogue h = cc
-update_built k h = refl
 
 update_rows : (k : Kind) → is_of_rows k ≡ true → is_of_update k ≡ false
 update_rows kind.Postings h = refl
@@ -283,7 +273,6 @@ module _ (c : Content) (m : StoreState) (t : List ℕ) (x : Table) (assigns : Li
         let ys = indexes_after kinds (looks_at_any kinds places) step m.tables t rows m.indexes in
         record {
           only = only-after ws c stands.only (updates_are rows there);
-          unbuilt = λ k h. at-after ws c k ∙ told_frame is_of_update ws k (at c k) (updates_kinds rows) (update_built k.kind h) ∙ stands.unbuilt k h;
           tables = subst (λ (f : Key → Option (List ℕ)). TablesStand f us) (sym (at_view ws c))
               (tables_stand rows distinct there (at c) m.tables stands.state.tables (λ q. refl) (λ r among. refl) stands.tables);
           indexes = subst (λ (f : Key → Option (List ℕ)). IndexesStand f us ys) (sym (at_view ws c)) hold.stand;

@@ -6,7 +6,6 @@ use Rattle.std.specs.Ordering.{int_eq, nat_cmp, eq_by_cmp}
 use Rattle.std.specs.Cmp.Lexicographic.{slice_cmp}
 use Rattle.std.specs.FinMap.{get, remove, get-remove}
 use Rattle.std.proofs.lemmas.Cmp.{nat_list_cmp_total}
-use Rattle.ct_base.specs.declared.lists.Value.{Value}
 use Rattle.ct_keep.specs.Content.{Content, set_to, after, changes_weight, value_weight}
 use Rattle.ct_entry.specs.declared.kinds.Kind.{Kind}
 use Rattle.ct_entry.specs.declared.kinds.Kind.TheVariants as kind
@@ -16,7 +15,7 @@ use Rattle.ct_entry.specs.Lists.{IsIn, AreApart}
 use Rattle.ct_entry.specs.Each.{each}
 use Rattle.ct_entry.specs.laws.Each.{all_each}
 use Rattle.ct_entry.specs.Changes.{spell, view, AllOf}
-use Rattle.ct_entry.specs.laws.Changes.{at_view, at-after, told_frame, view-append, all-append}
+use Rattle.ct_entry.specs.laws.Changes.{at_view, view-append, all-append}
 use Rattle.tb_table.specs.declared.columns.Column.{Column}
 use Rattle.tb_table.specs.Tables.{Table, Tables, row_at, without_row}
 use Rattle.tb_table.specs.Spelling.{TablesStand, text_places, drop_texts, delete_changes}
@@ -24,45 +23,30 @@ use Rattle.tb_table.specs.Rules.{AreTables}
 use Rattle.tb_table.specs.laws.Changes.{is_of_tables, tables_frame}
 use Rattle.tb_table.specs.laws.Removals.{get-without_row, row_at-without_row, columns-without_row, all_delete, stand_delete}
 use Rattle.tb_table.specs.laws.Rules.{delete_keeps}
-use Rattle.ix_docmap.specs.Changes.{gone_changes}
-use Rattle.ix_docmap.specs.Readings.{document_at}
-use Rattle.cat_index.specs.Catalogues.{filing}
-use Rattle.cat_index.specs.Changes.{in_each, words_change}
 use Rattle.ix_kinds.specs.Rows.{table_at, RowChange}
 use Rattle.ix_kinds.specs.Statements.{tables_after, every, indexes_after, row_changes_at}
 use Rattle.ix_kinds.specs.RowSteps.{AreSteps, IndexesHold}
 use Rattle.ix_kinds.specs.laws.Tables.{differs, row_now}
 use Rattle.ix_kinds.specs.laws.Turns.{row_is_row, rows_in_turn}
 use Rattle.ix_indexes.specs.Indexes.{kinds, IndexesStand}
-use Rattle.ix_indexes.specs.Noting.{Noted, InContext, InCatalogue, all_noted_changes, noted_changes}
+use Rattle.ix_indexes.specs.Noting.{AllDrop, Noted, all_noted_changes}
 use Rattle.tx_prefs.specs.Spelling.{PreferencesStand}
 use Rattle.tx_prefs.specs.laws.Changes.{preferences_frame, other_kinds}
 use Rattle.th_store.specs.laws.Changes.{thesauri_unchanged}
 use Rattle.db_state.specs.laws.ShortRows.{rows_frame}
 use Rattle.db_state.specs.laws.Kinds.{tables_no_noted}
-use Rattle.db_state.specs.States.{StoreState, StandsForState, HasShortRows, is_of_rows, is_view, is_built, index_limit}
+use Rattle.db_state.specs.States.{StoreState, StandsForState, HasShortRows, is_of_rows, is_view, index_limit}
 use Rattle.db_change.specs.Noting.{names_on, noted_on}
-use Rattle.db_change.specs.Deleting.{AllDrop, going, gone_row_changes, gone_rows_changes, without_rows}
+use Rattle.db_change.specs.Deleting.{going, gone_row_changes, gone_rows_changes, without_rows}
 use Rattle.db_change.specs.laws.IndexCounts.{few_after}
 use Rattle.db_change.specs.laws.NewRows.{indexes_hold, names_on_table}
 use Rattle.db_change.specs.laws.NewTables.{apart}
 use Rattle.ix_context.specs.laws.ContextRows.{all_weaker}
 use Rattle.ix_indexes.specs.laws.Indexes.{kinds_laws}
 use Rattle.ix_indexes.specs.laws.Noting.{is_noted, notes_are_changes, notes_of}
+use Rattle.ix_indexes.specs.laws.Dropping.{drop-append, drop_each, notes_drop}
 
 -- ---- changes that only take entries away
-
-pub drop-append : {A : Type 0} (xs ys : List (A × Option (List ℕ))) → AllDrop xs → AllDrop ys → AllDrop (xs ++ ys)
-drop-append [] ys a b = b
-drop-append (x ∷ xs) ys a b = (a.0, drop-append xs ys a.1 b)
-
-drop_each : {I : Type 0} (changes : I → List (Key × Option (List ℕ))) → ((i : I) → AllDrop (changes i)) → (is : List I) → AllDrop (each changes is)
-drop_each changes one [] = tt
-drop_each changes one (i ∷ is) = drop-append (changes i) (each changes is) (one i) (drop_each changes one is)
-
-pub drop_spelt : (ws : List (Key × Option (List ℕ))) → AllDrop ws → AllDrop (spell ws)
-drop_spelt [] all = tt
-drop_spelt (w ∷ ws) all = (all.0, drop_spelt ws all.1)
 
 -- they weigh nothing
 pub drops_weigh_nothing : (ws : List (List ℕ × Option (List ℕ))) → AllDrop ws → changes_weight ws ≡ 0
@@ -84,28 +68,6 @@ drops_leave (w ∷ ws) m all only = drops_leave ws (set_to (bytes w.0) w.1 m) al
 
 -- ---- those of rows
 
-drop_gone : (i : List ℕ) (r : ℤ) (o : Option ℕ) → AllDrop (gone_changes i r o)
-drop_gone i r None = (refl, tt)
-drop_gone i r (Some d) = (refl, (refl, tt))
-
-drop_words : (i : List ℕ) (r : ℤ) (n : ℕ) (words : List (List ℕ)) (v : List ℕ) → AllDrop (words_change i r n words false v)
-drop_words i r n [] v = tt
-drop_words i r n (w ∷ ws) v = (refl, drop_words i r n ws v)
-
-drop_values : (i : List ℕ) (r : ℤ) (n : ℕ) (words vs : List (List ℕ)) → AllDrop (in_each (λ sub v. words_change i r sub words false v) n vs)
-drop_values i r n words [] = tt
-drop_values i r n words (v ∷ vs) = drop-append (words_change i r n words false v) (in_each (λ sub v. words_change i r sub words false v) (n + 1) vs) (drop_words i r n words v) (drop_values i r (n + 1) words vs)
-
-drop_one : (f : Key → Option (List ℕ)) (r : ℤ) (old : Option (List Value)) (i : List ℕ) (n : Noted) → AllDrop (noted_changes f (going r old) i n)
-drop_one f r None i (InContext column) = tt
-drop_one f r (Some vs) i (InContext column) = drop_gone i r (document_at f i r)
-drop_one f r None i (InCatalogue x) = tt
-drop_one f r (Some vs) i (InCatalogue x) = drop_values i r 0 (filing x r vs).words (filing x r vs).values
-
--- what indexes are told of a row that goes
-pub notes_drop : (f : Key → Option (List ℕ)) (r : ℤ) (old : Option (List Value)) (es : List (List ℕ × Noted)) → AllDrop (all_noted_changes f (going r old) es)
-notes_drop f r old es = drop_each (λ (e : List ℕ × Noted). noted_changes f (going r old) e.0 e.1) (λ e. drop_one f r old e.0 e.1) es
-
 drop_texts_of : (t : List ℕ) (r : ℤ) (places : List ℕ) → AllDrop (drop_texts t r places)
 drop_texts_of t r [] = tt
 drop_texts_of t r (p ∷ ps) = (refl, drop_texts_of t r ps)
@@ -116,7 +78,7 @@ delete_drops t columns r = (refl, drop_texts_of t r (text_places columns))
 rows_drop : (f : Key → Option (List ℕ)) (ts : Tables) (t : List ℕ) (columns : List Column) (es : List (List ℕ × Noted)) (rows : List ℤ) → AllDrop (gone_rows_changes f ts t columns es rows)
 rows_drop f ts t columns es rows =
     drop_each (gone_row_changes f ts t columns es)
-    (λ r. drop-append (delete_changes t columns r) (all_noted_changes f (going r (row_at ts t r)) es) (delete_drops t columns r) (notes_drop f r (row_at ts t r) es))
+    (λ r. drop-append (delete_changes t columns r) (all_noted_changes f (going r (row_at ts t r)) es) (delete_drops t columns r) (notes_drop f (going r (row_at ts t r)) es refl))
     rows
 
 -- the kinds of the entries that go with a row
@@ -127,6 +89,9 @@ is_of_row kind.DocumentRows = true
 is_of_row kind.RowDocuments = true
 is_of_row kind.Pending = true
 is_of_row kind.Catalogue = true
+is_of_row kind.Rules = true
+is_of_row kind.Anchors = true
+is_of_row kind.RuleFaults = true
 is_of_row k = false
 
 noted_of_row : (k : Kind) → is_noted k ≡ true → is_of_row k ≡ true
@@ -134,6 +99,9 @@ noted_of_row kind.DocumentRows h = refl
 noted_of_row kind.RowDocuments h = refl
 noted_of_row kind.Pending h = refl
 noted_of_row kind.Catalogue h = refl
+noted_of_row kind.Rules h = refl
+noted_of_row kind.Anchors h = refl
+noted_of_row kind.RuleFaults h = refl
 noted_of_row k h = cc
 
 all_texts : (t : List ℕ) (r : ℤ) (places : List ℕ) → AllOf is_of_row (drop_texts t r places)
@@ -148,15 +116,6 @@ all_rows f ts t columns es rows =
     all-append is_of_row (delete_changes t columns r) (all_noted_changes f c es) (refl, all_texts t r (text_places columns)) (all_weaker is_noted is_of_row noted_of_row (all_noted_changes f c es) (notes_of f c es)))
     rows
 
-row_built : (k : Kind) → is_built k ≡ false → is_of_row k ≡ false
-row_built kind.RowNumbers h = cc
-row_built kind.RowTexts h = cc
-row_built kind.DocumentRows h = cc
-row_built kind.RowDocuments h = cc
-row_built kind.Pending h = cc
-row_built kind.Catalogue h = cc
-row_built k h = refl
-
 row_rows : (k : Kind) → is_of_rows k ≡ true → is_of_row k ≡ false
 row_rows kind.RowNumbers h = cc
 row_rows kind.RowTexts h = cc
@@ -164,6 +123,9 @@ row_rows kind.DocumentRows h = cc
 row_rows kind.RowDocuments h = cc
 row_rows kind.Pending h = cc
 row_rows kind.Catalogue h = cc
+row_rows kind.Rules h = cc
+row_rows kind.Anchors h = cc
+row_rows kind.RuleFaults h = cc
 row_rows k h = refl
 
 -- ---- the tables
@@ -248,7 +210,6 @@ gone_rows_stand c m t x rows stands here once there =
       tables = subst (λ (f : Key → Option (List ℕ)). TablesStand f (tables_after (lose_row t) m.tables rows)) (sym seen)
           (tables_without (at c) m.tables t x (λ r. all_noted_changes (at c) (change r) es) (λ r. notes_of (at c) (change r) es) rows here stands.state.tables is_row stands.tables);
       indexes = subst (λ (f : Key → Option (List ℕ)). IndexesStand f (tables_after (lose_row t) m.tables rows) (indexes_after kinds (every kinds) (lose_row t) m.tables t rows m.indexes)) (sym seen) hold.stand;
-      unbuilt = λ k h. at-after ws c k ∙ told_frame is_of_row ws k (at c k) all (row_built k.kind h) ∙ stands.unbuilt k h;
       preferences = subst (λ (f : Key → Option (List ℕ)). PreferencesStand f m.preferences) (sym seen) (preferences_frame is_of_row ws (at c) m.preferences all (other_kinds is_of_row refl refl refl refl) stands.preferences);
       thesauri = thesauri_unchanged is_of_row ws c m.thesauri all refl refl stands.thesauri;
       short_rows = subst HasShortRows (sym seen) (rows_frame is_of_row ws (at c) all row_rows stands.short_rows);

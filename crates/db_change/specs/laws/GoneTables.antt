@@ -9,8 +9,8 @@ use Rattle.ct_keep.specs.Content.{Content, after}
 use Rattle.ct_keep.specs.laws.RisingKeys.{entries_rise}
 use Rattle.ct_entry.specs.Keys.{Key, at, same_list}
 use Rattle.ct_entry.specs.Maps.{Names}
-use Rattle.ct_entry.specs.Changes.{spell, told, view}
-use Rattle.ct_entry.specs.laws.Changes.{at_view, at-after, only-after, told_frame, told-append, view-append, are-append}
+use Rattle.ct_entry.specs.Changes.{spell, view}
+use Rattle.ct_entry.specs.laws.Changes.{at_view, only-after, told_frame, view-append, are-append}
 use Rattle.tb_table.specs.Tables.{Table, Tables, without_table}
 use Rattle.tb_table.specs.Spelling.{TablesStand, remove_changes}
 use Rattle.tb_table.specs.laws.Changes.{is_of_tables, tables_frame}
@@ -20,7 +20,7 @@ use Rattle.ix_kinds.specs.Statements.{every, is_on, AreIndexesOn, without_indexe
 use Rattle.ix_kinds.specs.Drops.{HaveSameTablesBut, LosesIndexes}
 use Rattle.ix_kinds.specs.laws.Drops.{is_of_table, drop_table_stands, drop_table_keeps}
 use Rattle.ix_indexes.specs.Indexes.{Index, kinds, IndexesStand}
-use Rattle.ix_indexes.specs.laws.Removing.{remove_all_loses, all_of_indexes, all_removals_are, told_all, none_all}
+use Rattle.ix_indexes.specs.laws.Removing.{remove_all_loses, all_of_indexes, all_removals_are, told_all}
 use Rattle.db_names.specs.laws.Pairs.{rises_filter}
 use Rattle.tx_prefs.specs.Spelling.{PreferencesStand}
 use Rattle.tx_prefs.specs.laws.Changes.{preferences_frame, other_kinds}
@@ -32,7 +32,7 @@ use Rattle.db_state.specs.laws.EachValue.{entries-from_rising}
 use Rattle.db_state.specs.laws.Kinds.{tables_no_indexes}
 use Rattle.db_state.specs.laws.Removing.{fewer_kept}
 use Rattle.db_change.specs.Dropping.{with_table_dropped, drop_table_changes}
-use Rattle.db_change.specs.laws.NewTables.{tables_built, rows_tables, apart}
+use Rattle.db_change.specs.laws.NewTables.{rows_tables, apart}
 use Rattle.ix_kinds.specs.Standing.{is_of_indexes}
 use Rattle.ix_indexes.specs.Removing.{remove_all_changes}
 use Rattle.ix_indexes.specs.laws.Indexes.{kinds_laws}
@@ -97,9 +97,6 @@ module _ (c : Content) (m : StoreState) (t : List ℕ) (names : List (List ℕ))
       let seen : at (after (spell ws) c) ≡ all_gone = at_view ws c ∙ view-append us vs (at c) in
       record {
         only = only-after ws c stands.only (are-append us vs (are_remove t c stands.only) (all_removals_are c names stands.only));
-        unbuilt = λ k h.
-            at-after ws c k ∙ told-append us vs k (at c k)
-            ∙ none_all c names k (told us k (at c k)) (told_frame is_of_tables us k (at c k) (all_remove t c) (tables_built k.kind h) ∙ stands.unbuilt k h);
         tables = subst (λ (f : Key → Option (List ℕ)). TablesStand f (without_table m.tables t)) (sym seen)
             (tables_frame is_of_indexes vs of_tables_gone (without_table m.tables t) (all_of_indexes c names) tables_no_indexes
             (stand_remove (at c) m.tables t c (record { table = λ rest. refl; numbers = λ rest. refl; texts = λ rest. refl }) stands.tables));

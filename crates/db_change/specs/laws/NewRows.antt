@@ -15,7 +15,7 @@ use Rattle.std.proofs.lemmas.Bool.{and_parts}
 use Rattle.ct_keep.specs.laws.RisingKeys.{below, rises}
 use Rattle.ct_entry.specs.Each.{each, is_any_of}
 use Rattle.ct_entry.specs.Changes.{spell, told, view, AreChanges}
-use Rattle.ct_entry.specs.laws.Changes.{at_view, at-after, only-after, told_frame, told-append, view-append, are-append}
+use Rattle.ct_entry.specs.laws.Changes.{at_view, only-after, view-append, are-append}
 use Rattle.tb_table.specs.Tables.{Table, Tables, numbers_of, texts_of, row_at, row_in, with_row}
 use Rattle.tb_table.specs.Spelling.{TablesStand, insert_changes}
 use Rattle.tb_table.specs.Rules.{AreTables, FitColumns, others}
@@ -35,7 +35,7 @@ use Rattle.db_state.specs.States.{StoreState, IsState, StandsForState, HasShortR
 use Rattle.db_change.specs.Inserting.{coming, with_new_row}
 use Rattle.db_change.specs.Noting.{names_on, noted_on}
 use Rattle.db_state.specs.laws.Heads.{store_heads, get-heads, store_head}
-use Rattle.db_state.specs.laws.Kinds.{tables_no_noted, noted_built, noted_rows}
+use Rattle.db_state.specs.laws.Kinds.{tables_no_noted, noted_rows}
 use Rattle.ix_kinds.specs.Rows.{RowChange, table_at, row_change}
 use Rattle.ix_kinds.specs.Statements.{AreDistinct, every, is_on, AreIndexesOn, row_changes_at}
 use Rattle.ix_kinds.specs.RowSteps.{DifferInRow, AreUnseen, IndexesHold}
@@ -45,7 +45,7 @@ use Rattle.ix_kinds.specs.laws.Rows.{row_stands, row_keeps}
 use Rattle.ix_indexes.specs.Indexes.{Index, kinds, IndexesStand}
 use Rattle.ix_indexes.specs.Noting.{Noted, all_noted_changes}
 use Rattle.db_change.specs.laws.IndexCounts.{few_after_row}
-use Rattle.db_change.specs.laws.NewTables.{tables_built, rows_tables, apart}
+use Rattle.db_change.specs.laws.NewTables.{rows_tables, apart}
 use Rattle.ix_indexes.specs.laws.Indexes.{kinds_laws}
 use Rattle.ix_indexes.specs.laws.Noting.{is_noted, notes_are_changes, notes_behind, notes_of}
 use Rattle.db_state.specs.laws.NoteKeys.{notes_are_keys}
@@ -177,11 +177,6 @@ module _ (c : Content) (m : StoreState) (t : List ℕ) (x : Table) (r : ℤ) (vs
         tables = subst (λ (f : Key → Option (List ℕ)). TablesStand f us) (sym seen)
             (tables_frame is_noted notes (view own (at c)) us all tables_no_noted (stand_insert (at c) m.tables t r vs x is none row stands.tables));
         indexes = subst (λ (f : Key → Option (List ℕ)). IndexesStand f us (with_new_row m t r vs).indexes) (sym seen) notes_stand;
-        unbuilt = λ k h.
-            at-after (own ++ notes) c k ∙ told-append own notes k (at c k)
-            ∙ told_frame is_noted notes k (told own k (at c k)) all (noted_built k.kind h)
-            ∙ told_frame is_of_tables own k (at c k) (all_insert t r (numbers_of vs) (texts_of vs)) (tables_built k.kind h)
-            ∙ stands.unbuilt k h;
         preferences = subst (λ (f : Key → Option (List ℕ)). PreferencesStand f m.preferences) (sym seen) (preferences_frame is_noted notes (view own (at c)) m.preferences all (other_kinds is_noted refl refl refl refl) (preferences_frame is_of_tables own (at c) m.preferences (all_insert t r (numbers_of vs) (texts_of vs)) (other_kinds is_of_tables refl refl refl refl) stands.preferences));
         thesauri = subst (λ (f : Key → Option (List ℕ)). ThesauriStand f m.thesauri) (sym seen)
             (others_leave_thesauri is_noted notes (view own (at c)) m.thesauri all refl refl (others_leave_thesauri is_of_tables own (at c) m.thesauri (all_insert t r (numbers_of vs) (texts_of vs)) refl refl stands.thesauri));

@@ -12,7 +12,7 @@ use Rattle.ct_entry.specs.declared.kinds.Kind.TheVariants as kind
 use Rattle.ct_entry.specs.Keys.{Key, at, same_list}
 use Rattle.ct_entry.specs.laws.Keys.{list_from_same}
 use Rattle.ct_entry.specs.Changes.{spell}
-use Rattle.ct_entry.specs.laws.Changes.{at_view, at-after, only-after, told_frame}
+use Rattle.ct_entry.specs.laws.Changes.{at_view, only-after}
 use Rattle.tb_table.specs.declared.columns.Column.{Column}
 use Rattle.tb_table.specs.Tables.{Table, Tables, with_table}
 use Rattle.tb_table.specs.Spelling.{TablesStand, table_changes}
@@ -36,7 +36,7 @@ use Rattle.th_store.specs.laws.Changes.{thesauri_unchanged}
 use Rattle.db_state.specs.Effects.{whole_count}
 use Rattle.db_change.specs.Creating.{is_number_sort, is_key_first, names_differ, is_size, is_sized, all_sized, declared_sort, column_of, with_new_table}
 use Rattle.db_state.specs.laws.ShortRows.{rows_frame}
-use Rattle.db_state.specs.States.{HasShortRows, is_of_rows, StoreState, StandsForState, is_view, is_built}
+use Rattle.db_state.specs.States.{HasShortRows, is_of_rows, StoreState, StandsForState, is_view}
 use Rattle.std.proofs.lemmas.Bool.{or_parts as either, and_parts as both, not-true as not_true}
 use Rattle.ct_base.specs.laws.Options.{no_value as no_some}
 use Rattle.ix_indexes.specs.laws.Indexes.{kinds_laws}
@@ -66,12 +66,6 @@ rows_tables kind.RowNumbers h = cc
 rows_tables kind.RowTexts h = cc
 rows_tables k h = refl
 
-pub tables_built : (k : Kind) → is_built k ≡ false → is_of_tables k ≡ false
-tables_built kind.Tables h = cc
-tables_built kind.RowNumbers h = cc
-tables_built kind.RowTexts h = cc
-tables_built k h = refl
-
 pub apart : (k : Kind) → is_of_indexes k ≡ true → is_of_tables k ≡ false
 apart kind.Tables h = cc
 apart kind.RowNumbers h = cc
@@ -89,7 +83,6 @@ new_table_stands c m t columns stands none free name are few =
       indexes = subst (λ (f : Key → Option (List ℕ)). IndexesStand f (with_table m.tables t columns) m.indexes) (sym (at_view ws c))
           (indexes_frame kinds kinds_laws.alone is_of_tables ws (at c) (with_table m.tables t columns) m.indexes (all_create t columns) apart
           (table_stands kinds kinds_laws (at c) m.tables m.indexes t columns none stands.state.indexes stands.indexes));
-      unbuilt = λ k h. at-after ws c k ∙ told_frame is_of_tables ws k (at c k) (all_create t columns) (tables_built k.kind h) ∙ stands.unbuilt k h;
       preferences = subst (λ (f : Key → Option (List ℕ)). PreferencesStand f m.preferences) (sym (at_view ws c)) (preferences_frame is_of_tables ws (at c) m.preferences (all_create t columns) (other_kinds is_of_tables refl refl refl refl) stands.preferences);
       thesauri = thesauri_unchanged is_of_tables ws c m.thesauri (all_create t columns) refl refl stands.thesauri;
       short_rows = subst HasShortRows (sym (at_view ws c)) (rows_frame is_of_tables ws (at c) (all_create t columns) rows_tables stands.short_rows);

@@ -14,6 +14,7 @@ use Rattle.ix_indexes.specs.Noting.{noted_indexes}
 use Rattle.db_change.specs.Deleting.{gone_rows_changes}
 use Rattle.db_change.specs.laws.GoneRows.{drops_weigh_nothing}
 use Rattle.db_change.proofs.GoneSteps.{delete_none, delete_refused, delete_done, met_are_there}
+use Rattle.db_change.proofs.NoteSteps.{on_held}
 use Rattle.db_change.proofs.ReadTables.{has_columns}
 use Rattle.db_change.proofs.deleting.delete_plan.Goals as goal
 
@@ -47,7 +48,7 @@ returns-clause-plan g c = record {
       let same = c.deref-4.ensures.value ∙ sym c.deref.ensures.value in
       let counted : c.len.result ≡ length rows = let is = c.len.ensures in let shown = ap length c.deref-6.ensures.value in omega (arith, is, shown) in
       delete_done m t c.args.conds.now x.table columns x.there x.same k stands (noted_indexes c.deref-5.result.now) noted rows met c.in_ok-batch.batch
-      (c.in_ok-batch.ensures.changes m k x.table third stands x.there (x.same ∙ sym same) (met_are_there m t x.table c.args.conds.now rows x.there met)
+      (c.in_ok-batch.ensures.changes m k x.table third stands x.there (x.same ∙ sym same) (met_are_there m t x.table c.args.conds.now rows x.there met) (on_held k m t stands _ noted)
       ∙ ap (λ (cs : List Column). spell (gone_rows_changes (at k) m.tables t cs (noted_indexes c.deref-5.result.now) (map (λ (row : RowKey). row.0) rows))) same)
       c.len.result counted (c.in_default-delete_fault.ensures.checks x.few);
 }

@@ -10,7 +10,7 @@ use Rattle.db_change.proofs.NoteSteps.{is_there, row_here, row_read, shown_short
 use Rattle.db_change.proofs.deleting.row_changes.Goals as goal
 
 pub returns-clause-changes : goal.returns-clause-changes
-returns-clause-changes g c = λ m k x holds stands here columns there.
+returns-clause-changes g c = λ m k x holds stands here columns there held.
     let t = c.args.table.now in
     let r = c.args.row.0 in
     let was = c.as_slice-was.result.now in
@@ -18,7 +18,7 @@ returns-clause-changes g c = λ m k x holds stands here columns there.
     let told = going r (row_at m.tables t r) in
     row_made (delete_changes t c.args.columns.now r) (all_noted_changes (at k) told (noted_indexes c.args.indexes.now)) c.new-batch.result c.delete.new.batch c.in_ok-notes.notes c.append.new.self
     c.new-batch.ensures c.in_ok-delete.ensures.ok
-    (c.in_ok-notes.ensures.changes k (reads_hold _ _ k c.in_ok-old.ensures.reads holds) told (record {
+    (c.in_ok-notes.ensures.changes k (reads_hold _ _ k c.in_ok-old.ensures.reads holds) held told (record {
       row = refl;
       is = (is_there m t x r here there, refl);
       values = λ matter. (
@@ -33,9 +33,8 @@ pub returns-clause-drops : goal.returns-clause-drops
 returns-clause-drops g c = λ k holds.
     let r = c.args.row.0 in
     let was = c.as_slice-was.result.now in
-    row_drops (at k) c.args.table.now c.args.columns.now r (Some was) (noted_indexes c.args.indexes.now) c.new-batch.result c.delete.new.batch c.in_ok-notes.notes c.append.new.self
-    c.new-batch.ensures c.in_ok-delete.ensures.ok
-    (c.in_ok-notes.ensures.changes k (reads_hold _ _ k c.in_ok-old.ensures.reads holds) (going r (Some was)) (record {
+    row_drops c.args.table.now c.args.columns.now r c.new-batch.result c.delete.new.batch c.in_ok-notes.notes c.append.new.self c.new-batch.ensures c.in_ok-delete.ensures.ok
+    (c.in_ok-notes.ensures.drops k (reads_hold _ _ k c.in_ok-old.ensures.reads holds) tt (going r (Some was)) (record {
       row = refl;
       is = (refl, refl);
       values = λ matter. (refl, shown_short was c.in_ok-old.old.items c.as_slice-was.ensures.value c.in_ok-old.ensures.short);

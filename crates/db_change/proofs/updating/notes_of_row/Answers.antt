@@ -11,7 +11,7 @@ use Rattle.db_change.proofs.NoteSteps.{row_read, shown_short, updated_short}
 use Rattle.db_change.proofs.updating.notes_of_row.Goals as goal
 
 pub returns-clause-notes : goal.returns-clause-notes
-returns-clause-notes g c = λ m k x holds stands here columns there.
+returns-clause-notes g c = λ m k x holds stands here columns there held.
     let r = c.args.row.0 in
     let cs = others c.args.columns.now in
     let assigns = c.args.assigns.now in
@@ -19,7 +19,7 @@ returns-clause-notes g c = λ m k x holds stands here columns there.
     let next = c.as_slice-next.result.now in
     let next_is : next ≡ updated_values cs assigns was = c.as_slice-next.ensures.value ∙ c.in_ok-new.ensures ∙ ap (λ (l : List Column). updated_values l assigns was) c.behind_key.ensures in
     let short = shown_short was c.in_ok-old.old.items c.as_slice-was.ensures.value c.in_ok-old.ensures.short in
-    c.in_ok-notes.ensures.changes k (reads_hold _ _ k c.in_ok-old.ensures.reads holds) (changing cs assigns r (get x.rows r)) (record {
+    c.in_ok-notes.ensures.changes k (reads_hold _ _ k c.in_ok-old.ensures.reads holds) held (changing cs assigns r (get x.rows r)) (record {
       row = refl;
       is = (there, refl);
       values = λ matter.

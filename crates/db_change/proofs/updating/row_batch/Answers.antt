@@ -16,7 +16,7 @@ use Rattle.db_change.proofs.UpdateSteps.{few_others}
 use Rattle.db_change.proofs.updating.row_batch.Goals as goal
 
 pub returns-clause-batch : goal.returns-clause-batch
-returns-clause-batch g c = λ m k x holds stands here columns there.
+returns-clause-batch g c = λ m k x holds stands here columns there held.
     let t = c.args.table.now in
     let r = c.args.row.0 in
     let cs = others c.args.columns.now in
@@ -29,7 +29,7 @@ returns-clause-batch g c = λ m k x holds stands here columns there.
     ∙ ap (λ (ds : List Column). spell (value_changes t ds assigns c.deref.result.now r)) c.behind_key-behind.ensures
     ∙ ap (λ (ns : List ℤ). spell (value_changes t cs assigns ns r)) (c.deref.ensures.value ∙ c.in_ok-numbers.ensures.numbers m k holds stands) in
     let told =
-    c.in_ok-notes.ensures.notes m k x (reads_hold _ _ k c.in_ok-numbers.ensures.reads holds) stands here columns there
+    c.in_ok-notes.ensures.notes m k x (reads_hold _ _ k c.in_ok-numbers.ensures.reads holds) stands here columns there held
     ∙ ap (λ (o : Option (List Value)). spell (all_noted_changes (at k) (changing cs assigns r o) es)) (sym (row_here m t x r here there)) in
     c.in_ok-append.ensures.ok
     ∙ ap (λ (b : List (List ℕ × Option (List ℕ))). b ++ c.in_ok-notes.notes) first

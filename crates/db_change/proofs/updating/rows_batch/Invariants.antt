@@ -6,7 +6,7 @@ use Rattle.ct_entry.specs.Changes.{spell}
 use Rattle.cat_index.specs.Sees.{AreThere}
 use Rattle.tb_table.specs.Rules.{others}
 use Rattle.tb_table.specs.Tables.{Table}
-use Rattle.ix_indexes.specs.Noting.{noted_indexes}
+use Rattle.ix_indexes.specs.Noting.{AreHeld, noted_indexes}
 use Rattle.db_state.specs.States.{StoreState, StandsForState}
 use Rattle.db_state.specs.Shapes.{AreStoreChanges}
 use Rattle.db_change.specs.Updating.{update_changes}
@@ -15,7 +15,7 @@ use Rattle.db_change.proofs.updating.rows_batch.Given as goal
 abbrev pub invariant-loop-row : goal.invariant-loop-row
 invariant-loop-row g l = record {
   reads : ReadsKeeper (g.K.Keeper.view l.fn.keeper) (g.K.Keeper.view l.keeper) None;
-  batch : (m : StoreState) (c : Content) (x : Table) → (g.K.Keeper.view l.fn.keeper).content ≡ Some c → StandsForState c m → get m.tables l.table ≡ Some x → x.columns ≡ l.columns → AreThere x l.rows
+  batch : (m : StoreState) (c : Content) (x : Table) → (g.K.Keeper.view l.fn.keeper).content ≡ Some c → StandsForState c m → get m.tables l.table ≡ Some x → x.columns ≡ l.columns → AreThere x l.rows → AreHeld c (noted_indexes l.indexes)
       → l.batch ≡ spell (update_changes c m l.table (others l.columns) l.assigns (noted_indexes l.indexes) (map (λ row. row.0) (take l.row-index l.rows)));
   entries : AreStoreChanges l.batch;
 }
