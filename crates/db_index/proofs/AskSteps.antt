@@ -23,7 +23,7 @@ use Rattle.tx_prefs.specs.Copies.{copied, meant, prefs_of}
 use Rattle.tx_prefs.specs.Rules.{AreNamed}
 use Rattle.db_state.specs.Columns.{first_unknown}
 use Rattle.db_index.specs.declared.kinds.BuiltKind.{BuiltKind}
-use Rattle.db_index.specs.declared.kinds.BuiltKind.TheVariants.{Context, Catalogue}
+use Rattle.db_index.specs.declared.kinds.BuiltKind.TheVariants.{Context, Catalogue, Rules}
 use Rattle.db_index.specs.declared.asking.Wanted.{Wanted}
 use Rattle.db_index.specs.Kinds.{requests_taken}
 use Rattle.db_index.specs.Asking.{AsksForIndex, CanBeCreated, SectionsFit, columns_named, first_unknown_name, requests_in, taken_by, subs_meant, as_wanted, wanted_by, wanted_in, wanted_of}
@@ -137,6 +137,7 @@ prefs_copied (Some p) (Some s) w is = let made : as_wanted p s ≡ w = cc in ap 
 
 sections_by : (kind : BuiltKind) (ps : Preferences) (rs : List Request) (w : Wanted) → asks_only (requests_taken kind) rs ≡ true → wanted_by ps rs ≡ Some w → SectionsFit kind w
 sections_by Context ps rs w only is = tt
+sections_by Rules ps rs w only is = tt
 sections_by Catalogue ps rs w only is = copied_group ps rs w.prefs only (prefs_copied (copied ps (requested_parameters rs)) (subs_meant ps rs) w is)
 
 -- what is wanted of a kind has the sections that the kind may have

@@ -43,7 +43,7 @@ use Rattle.db_state.specs.laws.Chains.{checked, passed, refused}
 use Rattle.db_state.specs.laws.EachValue.{entries-each_value, count_alike}
 use Rattle.db_state.specs.laws.Heads.{store_head, store_heads}
 use Rattle.db_index.specs.declared.kinds.BuiltKind.{BuiltKind}
-use Rattle.db_index.specs.declared.kinds.BuiltKind.TheVariants.{Context, Catalogue}
+use Rattle.db_index.specs.declared.kinds.BuiltKind.TheVariants.{Context, Catalogue, Rules}
 use Rattle.db_index.specs.declared.asking.Wanted.{Wanted}
 use Rattle.db_index.specs.Asking.{AsksForIndex, SectionsFit, are_sub_columns, fitting, requests_in, first_unknown_name, wanted_in}
 use Rattle.db_index.specs.Indexing.{IsFreeIndex, all_rows, asked_for, check_flags, check_index, columns_or_none, create_index, create_index_by, create_index_on, has_index_on, has_too_many_rows, index_created, is_index_taken, passes_limit, target, with_new_index}
@@ -113,6 +113,7 @@ few_rows m t Context x w are there =
     let few = is.few in
     ap not (le-leb (length (rows_within (table_at m.tables t) all_rows)) mark_limit (omega (arith, all, few)))
 few_rows m t Catalogue x w are there = refl
+few_rows m t Rules x w are there = refl
 
 -- what is done by what is wanted; where that is nothing, the check of its form refuses
 abbrev pub done_by : Option Wanted → (Wanted → Effect) → Effect

@@ -3,6 +3,7 @@ pub mod IndexChecks
 pub mod SyncChecks
 pub mod SyncSteps
 pub mod AskSteps
+pub mod LoadSteps
 pub mod CreateSteps
 pub mod PlanShapes
 pub mod DropChecks

@@ -5,6 +5,7 @@ use Rattle.ct_entry.specs.Shapes.{AreShaped}
 use Rattle.ct_entry.specs.laws.Shapes.{are_shaped_weaker}
 use Rattle.ix_context.specs.Shapes.{HasContextValue}
 use Rattle.cat_index.specs.Shapes.{HasCatalogueValue}
+use Rattle.rule_index.specs.Shapes.{HasRuleValue}
 use Rattle.db_state.specs.Shapes.{AreStoreChanges, HasStoreValue}
 
 -- what was put into an empty batch
@@ -16,4 +17,7 @@ pub of_contexts : (none new : List (List ℕ × Option (List ℕ))) → none ≡
 of_contexts none new empty keeps = into_empty HasContextValue (λ k value has. inr (inl (inl has))) none new empty keeps
 
 pub of_catalogues : (none new : List (List ℕ × Option (List ℕ))) → none ≡ [] → (AreShaped HasCatalogueValue none → AreShaped HasCatalogueValue new) → AreStoreChanges new
-of_catalogues none new empty keeps = into_empty HasCatalogueValue (λ k value has. inr (inl (inr has))) none new empty keeps
+of_catalogues none new empty keeps = into_empty HasCatalogueValue (λ k value has. inr (inl (inr (inl has)))) none new empty keeps
+
+pub of_rules : (none new : List (List ℕ × Option (List ℕ))) → none ≡ [] → (AreShaped HasRuleValue none → AreShaped HasRuleValue new) → AreStoreChanges new
+of_rules none new empty keeps = into_empty HasRuleValue (λ k value has. inr (inl (inr (inr has)))) none new empty keeps

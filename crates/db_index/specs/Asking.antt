@@ -23,7 +23,7 @@ use Rattle.tx_prefs.specs.Copies.{copied, meant}
 use Rattle.cat_index.specs.Filings.{sub_text_limit}
 use Rattle.db_state.specs.Columns.{first_unknown}
 use Rattle.db_index.specs.declared.kinds.BuiltKind.{BuiltKind}
-use Rattle.db_index.specs.declared.kinds.BuiltKind.TheVariants.{Context, Catalogue}
+use Rattle.db_index.specs.declared.kinds.BuiltKind.TheVariants.{Context, Catalogue, Rules}
 use Rattle.db_index.specs.declared.asking.Wanted.{Wanted}
 use Rattle.db_index.specs.declared.asking.Asked.{Asked}
 use Rattle.db_index.specs.Kinds.{requests_taken}
@@ -109,6 +109,7 @@ pub record CanBeCreated (w : Wanted) : Type 0 where
 abbrev pub SectionsFit : BuiltKind → Wanted → Type 0
 SectionsFit Context w = Unit {0}
 SectionsFit Catalogue w = w.prefs.group ≡ no_sections
+SectionsFit Rules w = Unit {0}
 
 -- ---- computed examples
 
@@ -132,6 +133,11 @@ a_set_in_a_catalogue = refl
 a_group_elsewhere : requests_in Context (Some (codes "section group g")) ≡ Some (request SectionGroup (Some (codes "g")) ∷ [])
 unfolding chars encode
 a_group_elsewhere = refl
+
+-- rules may name sections
+a_group_for_rules : requests_in Rules (Some (codes "section group g")) ≡ Some (request SectionGroup (Some (codes "g")) ∷ [])
+unfolding chars encode
+a_group_for_rules = refl
 
 -- of the columns id, body and price
 a_missing_column : unknown_column docs_columns (Some (as_wanted default_prefs ((codes "price" ∷ []) ∷ (codes "id" ∷ codes "kind" ∷ []) ∷ (codes "nope" ∷ []) ∷ []))) ≡ Some (codes "kind")

@@ -14,13 +14,14 @@ use Rattle.tx_settings.specs.Defaults.{default_prefs}
 use Rattle.tx_prefs.specs.declared.requests.Request.{Request}
 use Rattle.ix_context.specs.declared.ranges.KeyRange.{KeyRange}
 use Rattle.ix_kinds.specs.Targets.{is_text_at}
-use Rattle.ix_kinds.specs.Rows.{table_at}
+use Rattle.ix_kinds.specs.Rows.{row_keys_of, table_at}
 use Rattle.ix_kinds.specs.Statements.{with_index}
 use Rattle.db_names.specs.declared.heads.IndexKind.{IndexKind}
+use Rattle.rule_index.specs.RuleIndexes.{new_rules, row_outcome}
 use Rattle.ix_indexes.specs.Indexes.{Index, AskedFor, kinds}
 use Rattle.db_state.specs.Lookups.{is_on_column}
 use Rattle.db_cond.specs.Faults.{UnknownName, ExistsAlready, WrongValues, BadValue, LimitReached}
-use Rattle.db_state.specs.States.{StoreState, indexes_on, index_limit}
+use Rattle.db_state.specs.States.{StoreState, indexes_on, index_limit, named_thesauri}
 use Rattle.db_state.specs.Effects.{Effect, Does, refuse, refuse_by, with_found, Refused}
 use Rattle.db_state.specs.Columns.{column_place}
 use Rattle.ct_keep.specs.declared.keepers.KeepFault.{KeepFault}
@@ -28,7 +29,7 @@ use Rattle.ct_keep.specs.Content.{Content}
 use Rattle.ct_entry.specs.Changes.{spell}
 use Rattle.db_state.specs.declared.plans.Plan.{Plan}
 use Rattle.db_index.specs.declared.kinds.BuiltKind.{BuiltKind}
-use Rattle.db_index.specs.declared.kinds.BuiltKind.TheVariants.{Context, Catalogue}
+use Rattle.db_index.specs.declared.kinds.BuiltKind.TheVariants.{Context, Catalogue, Rules}
 use Rattle.db_index.specs.declared.asking.Wanted.{Wanted}
 use Rattle.db_index.specs.Kinds.{index_kind}
 use Rattle.db_index.specs.Asking.{AsksForIndex, SectionsFit, are_sub_columns, fitting, as_wanted, first_unknown_name, requests_in, wanted_in}
@@ -45,10 +46,14 @@ all_rows = record { from = record { 0 = negsuc (2 ^ 63 - 1) }; to = record { 0 =
 abbrev pub target : List ℕ → ℕ → Target
 target t place = record { table = t; column = place }
 
--- what the kind of index asks for beside the preferences: of a CONTEXT index all rows, of a catalogue its sub-indexes
+abbrev pub nothing_more : AskedFor
+nothing_more = inr (inr tt)
+
+-- what the kind of index asks for beside the preferences: of a CONTEXT index all rows, of a catalogue its sub-indexes, of a rule index nothing
 abbrev pub asked_for : BuiltKind → Wanted → AskedFor
 asked_for Context w = inl all_rows
-asked_for Catalogue w = inr w.subs
+asked_for Catalogue w = inr (inl w.subs)
+asked_for Rules w = nothing_more
 
 -- The checks in their order: whether there is an index of the name or on the column, whether that is a column of texts, whether PARAMETERS is of its form and its sub-indexes
 -- have columns that they may have, and whether a limit would be passed.
@@ -67,8 +72,9 @@ index_created = codes "Index created.\n"
 abbrev pub index_made : Option DoneLines
 index_made = Some (line_for_all index_created)
 
+-- by the thesauri as they are now, with which a rule index reads the rules of its rows
 abbrev pub with_new_index : StoreState → List ℕ → List ℕ → BuiltKind → ℕ → Wanted → StoreState
-with_new_index m i t kind place w = record m { indexes = with_index kinds (asked_for kind w) tt m.tables i (target t place) w.prefs m.indexes }
+with_new_index m i t kind place w = record m { indexes = with_index kinds (asked_for kind w) (named_thesauri m) m.tables i (target t place) w.prefs m.indexes }
 
 -- there are more rows than an index has numbers
 abbrev pub has_too_many_rows : StoreState → List ℕ → BuiltKind → Wanted → Bool
@@ -113,7 +119,7 @@ create_index m i t column kind parameters =
 -- the changes of a new index; none where it would need more documents than there are numbers
 abbrev pub MakesOver : StoreState → AskedFor → List ℕ → Target → Prefs → Option (List (List ℕ × Option (List ℕ))) → Type 0
 MakesOver m asked i on prefs batch =
-    MatchOption batch (kinds.can_create (table_at m.tables on.table) asked ≡ false) (λ changes. changes ≡ spell (kinds.create_changes asked tt (table_at m.tables on.table) i on prefs))
+    MatchOption batch (kinds.can_create (table_at m.tables on.table) asked ≡ false) (λ changes. changes ≡ spell (kinds.create_changes asked (named_thesauri m) (table_at m.tables on.table) i on prefs))
 
 -- those of what is wanted, on a column by its place
 abbrev pub MakesIndex : StoreState → List ℕ → List ℕ → BuiltKind → ℕ → Wanted → Option (List (List ℕ × Option (List ℕ))) → Type 0
@@ -172,9 +178,17 @@ of_a_clob done = refl
 one_index_too_many : (done : Wanted → Effect) → check_index false (is_text_at docs_columns 1) (fitting docs_columns (Some by_defaults)) (λ w. true) (codes "di") done ≡ Refused LimitReached
 one_index_too_many done = refl
 
--- a catalogue may have any number of rows
+-- a catalogue and a rule index may have any number of rows
 no_row_too_many : (m : StoreState) (t : List ℕ) (w : Wanted) → has_too_many_rows m t Catalogue w ≡ false
 no_row_too_many m t w = refl
+
+no_rule_too_many : (m : StoreState) (t : List ℕ) (w : Wanted) → has_too_many_rows m t Rules w ≡ false
+no_rule_too_many m t w = refl
+
+-- in a new rule index no row of the table waits: the rule of each was taken, or is faulty, by the thesauri of the state
+each_rule_settled : (m : StoreState) (x : Table) (w : Wanted)
+    → kinds.new_body (asked_for Rules w) (named_thesauri m) x (target (codes "rules") 1) w.prefs ≡ inr (inr (new_rules (row_outcome (named_thesauri m) x 1 w.prefs) (row_keys_of x)))
+each_rule_settled m x w = refl
 
 -- the first name that isn't there comes before all other checks
 unknown_column_first : (m : StoreState) (i t : List ℕ) (requests : Option (List Request)) (x : Table) (place : ℕ) → first_unknown_name m.preferences x.columns requests ≡ Some (codes "nope")

@@ -1,5 +1,6 @@
 pub mod Kinds
 pub mod Tokenizing
+pub mod Thesauri
 pub mod Syncing
 pub mod Asking
 pub mod Indexing

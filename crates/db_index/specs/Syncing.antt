@@ -3,17 +3,20 @@ use Rattle.std.specs.Prelude.{ℕ, pos, ◌==◌, Bool, true, false, not, ◌||�
 use Rattle.std.specs.Option.{option_map}
 use Rattle.std.specs.Char.{to_ascii_lowercase, is_ascii_digit}
 use Rattle.std.specs.FinMap.{get}
+use Rattle.std.proofs.Common.{inr}
 use Rattle.st_parse.specs.declared.statements.Arg.{Arg}
 use Rattle.st_parse.specs.declared.statements.Arg.TheVariants.{Text as TextArg, Number as NumberArg}
 use Rattle.db_call.specs.Arguments.{are_texts, argument_name}
 use Rattle.ct_entry.specs.Changes.{spell}
+use Rattle.tb_table.specs.Tables.{Table}
 use Rattle.ix_kinds.specs.Rows.{table_at}
 use Rattle.ix_kinds.specs.Statements.{indexes_after_sync}
-use Rattle.ix_indexes.specs.Indexes.{Index, kinds}
+use Rattle.rule_index.specs.RuleIndexes.{RuleIndex, all_settled, row_outcome}
+use Rattle.ix_indexes.specs.Indexes.{Index, as_rules, kinds}
 use Rattle.db_names.specs.declared.heads.IndexKind.{IndexKind}
-use Rattle.db_names.specs.declared.heads.IndexKind.TheVariants.{Context, Catalogue}
+use Rattle.db_names.specs.declared.heads.IndexKind.TheVariants.{Context, Catalogue, Rules}
 use Rattle.db_cond.specs.Faults.{UnknownName, NoIndexOfKind, WrongValues, BadValue, LimitReached}
-use Rattle.db_state.specs.States.{StoreState}
+use Rattle.db_state.specs.States.{StoreState, named_thesauri}
 use Rattle.db_state.specs.Effects.{Effect, Refused, Does, refuse, refuse_by, with_found}
 use Rattle.st_parse.specs.declared.statements.Whole.TheVariants.{Fits}
 use Rattle.db_state.specs.Lines.{call_done}
@@ -49,11 +52,21 @@ abbrev pub kind_named : StoreState → Option (List ℕ) → Option IndexKind
 kind_named m None = None
 kind_named m (Some i) = option_map (λ (x : Index). kinds.kind x.body) (get m.indexes i)
 
--- Of all kinds CONTEXT alone is synchronised.
+-- A catalogue is not synchronised, since no row waits in it.
 abbrev pub is_other_kind : Option IndexKind → Bool
 is_other_kind None = false
 is_other_kind (Some Context) = false
-is_other_kind (Some kind) = true
+is_other_kind (Some Catalogue) = true
+is_other_kind (Some Rules) = false
+
+-- whether it is the kind of a rule index, and the kind of what is synchronised by whether it is
+abbrev pub is_rule_index : Option IndexKind → Bool
+is_rule_index (Some Rules) = true
+is_rule_index kind = false
+
+abbrev pub synced_kind : Bool → IndexKind
+synced_kind true = Rules
+synced_kind false = Context
 
 -- the checks in their order, by the name that no index has, if it is one, and whether the index that has it is of another kind
 abbrev pub check_sync : Option (List ℕ) → Bool → List Arg → Effect → Effect
@@ -68,8 +81,9 @@ check_sync unknown other args done =
 abbrev pub has_too_many : Index → Bool
 has_too_many x = not (kinds.can_sync x)
 
+-- the index once each row that waited is settled, by the thesauri as they are now
 abbrev pub with_synced : StoreState → List ℕ → StoreState
-with_synced m i = record m { indexes = indexes_after_sync kinds tt m.tables i m.indexes }
+with_synced m i = record m { indexes = indexes_after_sync kinds (named_thesauri m) m.tables i m.indexes }
 
 abbrev pub sync_found : StoreState → List ℕ → Index → Effect
 sync_found m i x = refuse (has_too_many x) LimitReached (Does (with_synced m i) call_done)
@@ -90,7 +104,7 @@ sync_index m args = sync_as_kind (kind_named m (argument_name 0 args)) m (argume
 
 -- the changes of the synchronisation; none where the index would need more documents than there are numbers
 abbrev pub MakesSync : List ℕ → StoreState → Index → Option (List (List ℕ × Option (List ℕ))) → Type 0
-MakesSync i m x batch = MatchOption batch (has_too_many x ≡ true) (λ changes. (has_too_many x ≡ false) × (changes ≡ spell (kinds.sync_changes tt (table_at m.tables x.table) i x)))
+MakesSync i m x batch = MatchOption batch (has_too_many x ≡ true) (λ changes. (has_too_many x ≡ false) × (changes ≡ spell (kinds.sync_changes (named_thesauri m) (table_at m.tables x.table) i x)))
 
 -- computed examples
 sixteen_megabytes : is_memory_size (codes "16m") ≡ true
@@ -111,6 +125,16 @@ unknown_and_too_many m = refl
 catalogue_and_too_many : (m : StoreState)
     → sync_as_kind (Some Catalogue) m (Some (codes "ci")) (TextArg (codes "ci") ∷ NumberArg (Fits (pos 1)) ∷ NumberArg (Fits (pos 2)) ∷ []) ≡ Refused NoIndexOfKind
 catalogue_and_too_many m = refl
+
+-- a rule index is synchronised, however many rules wait: each is read by the thesauri of the state
+rules_pass : (done : Effect) → check_sync (unknown_name true (Some (codes "ri"))) (is_other_kind (Some Rules)) (TextArg (codes "ri") ∷ []) done ≡ done
+rules_pass done = refl
+
+rules_settled : (m : StoreState) (t : Table) (x : RuleIndex) → kinds.after_sync (named_thesauri m) t (as_rules x) ≡ inr (inr (all_settled (row_outcome (named_thesauri m) t x.column x.prefs) x.body))
+rules_settled m t x = refl
+
+never_too_many : (x : RuleIndex) → has_too_many (as_rules x) ≡ false
+never_too_many x = refl
 
 -- a text that isn't spelt as a name is none that could be unknown
 no_name_and_a_number : (m : StoreState) → sync_index m (TextArg (codes "no name") ∷ NumberArg (Fits (pos 1)) ∷ []) ≡ Refused WrongValues

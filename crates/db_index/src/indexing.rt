@@ -11,7 +11,7 @@ ghost use Rattle.tx_settings.specs.Attributes.{can_be_set};
 ghost use Rattle.db_state.specs.States.{OverStates, OverNamedTable, indexes_on, index_limit, Sees};
 ghost use Rattle.db_state.specs.Effects.{Effect, Checks};
 ghost use Rattle.db_index.specs.Asking.{CanBeCreated};
-ghost use Rattle.db_index.specs.Indexing.{MakesIndex, MakesOver, PlansAsked, PlansFreeIndex, PlansIndex, all_rows, check_flags, columns_or_none as columns_of_table, columns_read, create_index as create_index_effect, has_index_on as column_has_index, index_made, is_index_taken};
+ghost use Rattle.db_index.specs.Indexing.{MakesIndex, MakesOver, PlansAsked, PlansFreeIndex, PlansIndex, all_rows, check_flags, columns_or_none as columns_of_table, columns_read, create_index as create_index_effect, has_index_on as column_has_index, index_made, is_index_taken, nothing_more};
 ghost use Rattle.ix_kinds.specs.Targets.{is_text_at as text_at, is_text_sort as sort_of_texts};
 ghost use Rattle.db_state.specs.Plans.{IsStorePlan, Replies};
 ghost use Rattle.db_state.specs.Shapes.{AcceptsStatements, AreStoreChanges};
@@ -19,6 +19,7 @@ ghost use Rattle.db_state.specs.Shapes.{AcceptsStatements, AreStoreChanges};
 use crate::asking::{Asked, Wanted, read_asked};
 use crate::kinds::{BuiltKind, index_kind};
 use crate::sub_columns::is_fitting;
+use crate::thesauri::all_thesauri;
 use cat_index::Catalogue;
 use ct_base::{Name, Text};
 use ct_keep::{Batch, KeepFault, Keeper};
@@ -28,6 +29,7 @@ use db_state::{
     Plan, carry_out, column_place, has_index, index_of_column, table_columns, target_of,
 };
 use ix_context::{ContextFault, KeyRange};
+use rule_index::Rules;
 use std::alloc::Global;
 use std::thread::Threads;
 use tb_table::{Column, Sort, Target};
@@ -190,7 +192,7 @@ fn new_catalogue<K: Keeper>(
 ) -> Result<Option<Batch>, KeepFault>
     requires ready { (K.view keeper.old).ready }
     requires can { CanBeCreated wanted }
-    ensures changes { OverStates K.view keeper.old (λ m c. IfOk result (MakesOver m (inr wanted.subs) index.now target wanted.prefs)) }
+    ensures changes { OverStates K.view keeper.old (λ m c. IfOk result (MakesOver m (inr (inl wanted.subs)) index.now target wanted.prefs)) }
     ensures entries { IfOk result (λ found. IfSome found AreStoreChanges) }
     ensures reads { OnlyReads K.view keeper.old keeper.new result }
 {
@@ -201,6 +203,26 @@ fn new_catalogue<K: Keeper>(
     };
     let mut batch = Batch::new(alloc);
     cat_index::create(alloc, keeper, &mut batch, index, &catalogue)?;
+    Ok(Some(batch))
+}
+
+/// The changes of a new rule index, by the thesauri as they are.
+fn new_rules<K: Keeper>(
+    alloc: Global,
+    keeper: &mut K,
+    index: &Name,
+    target: &Target,
+    prefs: &Prefs,
+) -> Result<Option<Batch>, KeepFault>
+    requires ready { (K.view keeper.old).ready }
+    requires set { can_be_set prefs.now.lexer ≡ true }
+    ensures changes { OverStates K.view keeper.old (λ m c. IfOk result (MakesOver m nothing_more index.now target.now prefs.now)) }
+    ensures entries { IfOk result (λ found. IfSome found AreStoreChanges) }
+    ensures reads { OnlyReads K.view keeper.old keeper.new result }
+{
+    let thesauri = all_thesauri(alloc, keeper)?;
+    let mut batch = Batch::new(alloc);
+    Rules::create(alloc, keeper, &mut batch, index, target, prefs, &thesauri)?;
     Ok(Some(batch))
 }
 
@@ -232,6 +254,7 @@ fn created<R: Threads + Sync, K: Keeper>(
             new_context(rt, alloc, degree, keeper, index, &target, &wanted.prefs)
         }
         BuiltKind::Catalogue => new_catalogue(alloc, keeper, index, target, wanted),
+        BuiltKind::Rules => new_rules(alloc, keeper, index, &target, &wanted.prefs),
     }
 }
 
@@ -344,16 +367,17 @@ fn index_plan<'a, R: Threads + Sync, K: Keeper>(
     )
 }
 
-/// CREATE INDEX: each row of the table becomes a document of the new CONTEXT index, or is entered in the new catalogue under its words
-/// in each sub-index. The index reads texts by a copy of the preferences that PARAMETERS names, and a catalogue has a copy of the index
-/// set, so that it stays as it is when these change later. The first of these that holds: E11 where there is no such table, column,
-/// preference or index set, or a column of the index set is not one of the table; E12 where the index is there, or the column has one of
-/// the kind; E13 where the column is a NUMBER; E30 where PARAMETERS isn't of the form that the kind takes, or a column of the index set
-/// is neither a NUMBER nor a VARCHAR2 of at most 100; E31 where the table has 16 indexes. At most `degree` threads may read the texts of
-/// a CONTEXT index.
+/// CREATE INDEX: each row of the table becomes a document of the new CONTEXT index, is entered in the new catalogue under its words in
+/// each sub-index, or is read as a rule of the new rule index: reduced with the thesauri as they are now and marked, or faulty. The
+/// index reads texts by a copy of the preferences that PARAMETERS names, and a catalogue has a copy of the index set, so that it stays
+/// as it is when these change later. The first of these that holds: E11 where there is no such table, column, preference or index set,
+/// or a column of the index set is not one of the table; E12 where the index is there, or the column has one of the kind; E13 where the
+/// column is a NUMBER; E30 where PARAMETERS isn't of the form that the kind takes, or a column of the index set is neither a NUMBER nor
+/// a VARCHAR2 of at most 100; E31 where the table has 16 indexes. At most `degree` threads may read the texts of a CONTEXT index.
 ///
 /// Its cost is that of copying the preferences, the length of the entries of all indexes, and what the texts hold, times a logarithm,
-/// for each sub-index; all changes are in memory until the commit.
+/// for each sub-index; for a rule index also that of loading all thesauri, once. All changes are in memory until the commit, and so are
+/// the thesauri, one text and one reduced query.
 pub fn create_index<R: Threads + Sync, K: Keeper>(
     rt: &R,
     alloc: Global,

@@ -8,23 +8,25 @@ use db_names::IndexKind;
 use st_parse::IndexKind as StatementKind;
 use tx_prefs::{PrefKind, Request, asks_only};
 
-/// The kind of a new index: one of those that are built.
+/// The kind of a new index.
 #[derive(Clone, Copy, Debug, PartialEq, Eq)]
 pub enum BuiltKind {
     /// CONTEXT.
     Context,
     /// CTXCAT.
     Catalogue,
+    /// CTXRULE.
+    Rules,
 }
 
-/// The kind that a statement asks for; None where it isn't built, as CTXRULE.
-pub fn built_kind(kind: StatementKind) -> Option<BuiltKind>
+/// The kind that a statement asks for.
+pub fn built_kind(kind: StatementKind) -> BuiltKind
     ensures { result ≡ built_kind kind }
 {
     match kind {
-        StatementKind::Context => Some(BuiltKind::Context),
-        StatementKind::Ctxcat => Some(BuiltKind::Catalogue),
-        StatementKind::Ctxrule => None,
+        StatementKind::Context => BuiltKind::Context,
+        StatementKind::Ctxcat => BuiltKind::Catalogue,
+        StatementKind::Ctxrule => BuiltKind::Rules,
     }
 }
 
@@ -35,6 +37,7 @@ pub(crate) fn index_kind(kind: BuiltKind) -> IndexKind
     match kind {
         BuiltKind::Context => IndexKind::Context,
         BuiltKind::Catalogue => IndexKind::Catalogue,
+        BuiltKind::Rules => IndexKind::Rules,
     }
 }
 
@@ -43,7 +46,7 @@ pub(crate) fn takes_requests(kind: BuiltKind, requests: &[Request]) -> bool
     ensures { result ≡ asks_only (requests_taken kind) requests.now }
 {
     match kind {
-        BuiltKind::Context => asks_only(
+        BuiltKind::Context | BuiltKind::Rules => asks_only(
             &[PrefKind::Lexer, PrefKind::Stoplist, PrefKind::SectionGroup],
             requests,
         ),

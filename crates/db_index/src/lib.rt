@@ -7,6 +7,7 @@ mod indexing;
 mod kinds;
 mod sub_columns;
 mod syncing;
+mod thesauri;
 mod tokenizing;
 
 pub use dropping::drop_index;

@@ -7,13 +7,14 @@ ghost use Rattle.ct_keep.specs.KeeperViews.{OnlyReads};
 ghost use Rattle.db_call.specs.Arguments.{argument_name as name_there};
 ghost use Rattle.db_state.specs.States.{OverIndex, Sees};
 ghost use Rattle.db_state.specs.Effects.{Effect, Checks};
-ghost use Rattle.db_index.specs.Syncing.{MakesSync, are_sync_args as sync_args, check_sync, is_bad_size as bad_size, is_memory_size as memory_size, is_other_kind as other_kind, is_unit as unit_letter, kind_named as kind_of_named, sync_index as sync_effect, unknown_name as name_unknown};
+ghost use Rattle.db_index.specs.Syncing.{MakesSync, are_sync_args as sync_args, check_sync, is_bad_size as bad_size, is_memory_size as memory_size, is_other_kind as other_kind, is_rule_index as rule_index_kind, is_unit as unit_letter, kind_named as kind_of_named, sync_index as sync_effect, synced_kind, unknown_name as name_unknown};
 ghost use Rattle.ix_indexes.specs.Indexes.{kinds};
 ghost use Rattle.db_names.specs.declared.heads.IndexKind.TheVariants as kind;
 ghost use Rattle.db_state.specs.Lines.{call_done};
 ghost use Rattle.db_state.specs.Plans.{IsStorePlan, Plans, Replies, line_for_all};
 ghost use Rattle.db_state.specs.Shapes.{AcceptsStatements, AreStoreChanges};
 
+use crate::thesauri::all_thesauri;
 use ct_base::Name;
 use ct_keep::{Batch, KeepFault, Keeper};
 use db_call::{are_texts, name_at};
@@ -21,6 +22,7 @@ use db_cond::Fault;
 use db_names::{IndexHead, IndexKind, index_of};
 use db_state::{Plan, carry_out};
 use ix_context::{ContextFault, sync};
+use rule_index::Rules;
 use st_parse::Arg;
 use std::alloc::Global;
 use std::thread::Threads;
@@ -79,13 +81,23 @@ fn unknown_name(there: bool, name: &Option<Name>) -> Option<&str>
     }
 }
 
-/// Whether this is the kind of an index that isn't synchronised.
+/// Whether this is the kind of an index that isn't synchronised, since no row waits in it.
 fn is_other_kind(kind: Option<IndexKind>) -> bool
     ensures { result ≡ other_kind kind }
 {
     match kind {
-        None | Some(IndexKind::Context) => false,
-        Some(IndexKind::Catalogue | IndexKind::Rules) => true,
+        None | Some(IndexKind::Context | IndexKind::Rules) => false,
+        Some(IndexKind::Catalogue) => true,
+    }
+}
+
+/// Whether this is the kind of a rule index.
+fn is_rule_index(kind: Option<IndexKind>) -> bool
+    ensures { result ≡ rule_index_kind kind }
+{
+    match kind {
+        None | Some(IndexKind::Context | IndexKind::Catalogue) => false,
+        Some(IndexKind::Rules) => true,
     }
 }
 
@@ -136,7 +148,7 @@ fn kind_named<K: Keeper>(
 }
 
 /// The changes of the synchronisation of a CONTEXT index; None where it would need more documents than there are numbers.
-fn synced<R: Threads + Sync, K: Keeper>(
+fn synced_context<R: Threads + Sync, K: Keeper>(
     rt: &R,
     alloc: Global,
     degree: u32,
@@ -155,6 +167,30 @@ fn synced<R: Threads + Sync, K: Keeper>(
         Err(ContextFault::Memory) => Err(KeepFault::Memory),
         Err(ContextFault::Disk) => Err(KeepFault::Disk),
     }
+}
+
+/// The changes of the synchronisation of a rule index, by the thesauri as they are, or else of a CONTEXT index; None where it would
+/// need more documents than there are numbers.
+fn synced<R: Threads + Sync, K: Keeper>(
+    rt: &R,
+    alloc: Global,
+    degree: u32,
+    keeper: &mut K,
+    rules: bool,
+    index: &Name,
+) -> Result<Option<Batch>, KeepFault>
+    requires { (K.view keeper.old).ready }
+    ensures changes { OverIndex K.view keeper.old index.now (λ m x. kinds.kind x.body ≡ synced_kind rules → IfOk result (MakesSync index.now m x)) }
+    ensures entries { IfOk result (λ found. IfSome found AreStoreChanges) }
+    ensures reads { OnlyReads K.view keeper.old keeper.new result }
+{
+    if !rules {
+        return synced_context(rt, alloc, degree, keeper, index);
+    }
+    let thesauri = all_thesauri(alloc, keeper)?;
+    let mut batch = Batch::new(alloc);
+    Rules::sync(alloc, keeper, &mut batch, index, &thesauri)?;
+    Ok(Some(batch))
 }
 
 /// What a synchronisation comes to: of the index of this name, by these arguments.
@@ -180,17 +216,19 @@ fn sync_plan<'a, R: Threads + Sync, K: Keeper>(
     let Some(index) = name else {
         return Ok(Plan::Refused(Fault::BadValue));
     };
-    let found = synced(rt, alloc, degree, keeper, index)?;
+    let found = synced(rt, alloc, degree, keeper, is_rule_index(kind), index)?;
     let Some(batch) = found else {
         return Ok(Plan::Refused(Fault::LimitReached));
     };
     Ok(Plan::Done(batch))
 }
 
-/// CTX_DDL.SYNC_INDEX: each row that waits becomes a document of the CONTEXT index. The first of these that holds: E11 where no index has
-/// the name; E27 where the index is a catalogue, in which no row waits; E13 where the arguments are neither one text nor two; E30 where the first spells no name, or the second no size of memory;
-/// E31 where the index would have over 2^32 - 2 documents. At most `degree` threads may read the texts. Its cost is what the texts
-/// hold, times a logarithm.
+/// CTX_DDL.SYNC_INDEX: each row that waits becomes a document of the CONTEXT index, or is read as a rule of the rule index: reduced with
+/// the thesauri as they are now and marked, or faulty. A faulty rule is tried again only once its row waits again. The first of these
+/// that holds: E11 where no index has the name; E27 where the index is a catalogue, in which no row waits; E13 where the arguments are
+/// neither one text nor two; E30 where the first spells no name, or the second no size of memory; E31 where a CONTEXT index would have
+/// over 2^32 - 2 documents. At most `degree` threads may read the texts of a CONTEXT index. Its cost is what the texts hold, times a
+/// logarithm; for a rule index also that of loading all thesauri, once.
 pub fn sync_index<R: Threads + Sync, K: Keeper>(
     rt: &R,
     alloc: Global,

@@ -1,5 +1,5 @@
 -- The state after a preference, a stoplist, a section group or an index set has got another value, or is new.
-use Rattle.std.proofs.Common.{◌≡◌, ℕ, ◌<◌, Bool, true, false, List, [], length, Option, Some, refl, sym, subst, ◌∙◌}
+use Rattle.std.proofs.Common.{◌≡◌, ℕ, ◌<◌, Bool, true, false, List, [], length, Option, Some, refl, sym, subst}
 use Rattle.std.specs.Prelude.{nat_le}
 use Rattle.std.specs.FinMap.{get, insert, entries}
 use Rattle.std.proofs.lemmas.Bool.{leb-false}
@@ -9,7 +9,7 @@ use Rattle.ct_entry.specs.declared.kinds.Kind.{Kind}
 use Rattle.ct_entry.specs.declared.kinds.Kind.TheVariants as kind
 use Rattle.ct_entry.specs.Keys.{Key, at}
 use Rattle.ct_entry.specs.Changes.{AllOf, AreChanges, spell, view}
-use Rattle.ct_entry.specs.laws.Changes.{at_view, at-after, only-after, told_frame}
+use Rattle.ct_entry.specs.laws.Changes.{at_view, only-after}
 use Rattle.tb_table.specs.Spelling.{TablesStand}
 use Rattle.tb_table.specs.laws.Changes.{is_of_tables, tables_frame}
 use Rattle.ix_kinds.specs.Standing.{is_of_indexes}
@@ -29,19 +29,12 @@ use Rattle.tx_prefs.specs.laws.Changes.{is_of_preferences, lexer_stands, stoplis
 use Rattle.tx_prefs.specs.laws.Rules.{named_more, named_again}
 use Rattle.th_store.specs.laws.Changes.{thesauri_unchanged}
 use Rattle.db_state.specs.laws.ShortRows.{rows_frame}
-use Rattle.db_state.specs.States.{HasShortRows, StoreState, StandsForState, is_built, is_of_rows}
+use Rattle.db_state.specs.States.{HasShortRows, StoreState, StandsForState, is_of_rows}
 use Rattle.db_prefs.specs.Defining.{new_changes, with_new}
 use Rattle.ix_indexes.specs.laws.Indexes.{kinds_laws}
 
 -- what is read of preferences
 -- ---- the kinds of entries
-
-preferences_built : (k : Kind) → is_built k ≡ false → is_of_preferences k ≡ false
-preferences_built kind.Preferences h = cc
-preferences_built kind.Stoplists h = cc
-preferences_built kind.SectionGroups h = cc
-preferences_built kind.IndexSets h = cc
-preferences_built k h = refl
 
 rows_preferences : (k : Kind) → is_of_rows k ≡ true → is_of_preferences k ≡ false
 rows_preferences kind.Preferences h = cc
@@ -72,7 +65,6 @@ module _ (c : Content) (m : StoreState) (ps : Preferences) (ws : List (Key × Op
       → StandsForState (after (spell ws) c) (record m { preferences = ps })
   preferences_stand stands of are stand rules = record {
     only = only-after ws c stands.only are;
-    unbuilt = λ k h. at-after ws c k ∙ told_frame is_of_preferences ws k (at c k) of (preferences_built k.kind h) ∙ stands.unbuilt k h;
     tables = subst (λ (f : Key → Option (List ℕ)). TablesStand f m.tables) (sym (at_view ws c)) (tables_frame is_of_preferences ws (at c) m.tables of tables_preferences stands.tables);
     indexes = subst (λ (f : Key → Option (List ℕ)). IndexesStand f m.tables m.indexes) (sym (at_view ws c)) (indexes_frame kinds kinds_laws.alone is_of_preferences ws (at c) m.tables m.indexes of indexes_preferences stands.indexes);
     preferences = subst (λ (f : Key → Option (List ℕ)). PreferencesStand f ps) (sym (at_view ws c)) stand;

@@ -1,5 +1,5 @@
 -- The state after a thesaurus is new, or has got one pair more.
-use Rattle.std.proofs.Common.{◌≡◌, ℕ, true, false, List, length, Option, Some, None, refl, sym, subst, ◌∙◌}
+use Rattle.std.proofs.Common.{◌≡◌, ℕ, true, false, List, length, Option, Some, None, refl, sym, subst}
 use Rattle.std.specs.FinMap.{get, entries}
 use Rattle.std.proofs.lemmas.Bool.{leb-false}
 use Rattle.ct_base.specs.Names.{IsName}
@@ -8,7 +8,7 @@ use Rattle.ct_entry.specs.declared.kinds.Kind.{Kind}
 use Rattle.ct_entry.specs.declared.kinds.Kind.TheVariants as kind
 use Rattle.ct_entry.specs.Keys.{Key, at}
 use Rattle.ct_entry.specs.Changes.{AllOf, AreChanges, spell, view}
-use Rattle.ct_entry.specs.laws.Changes.{at_view, at-after, only-after, told_frame}
+use Rattle.ct_entry.specs.laws.Changes.{at_view, only-after}
 use Rattle.tb_table.specs.Spelling.{TablesStand}
 use Rattle.tb_table.specs.laws.Changes.{is_of_tables, tables_frame}
 use Rattle.ix_kinds.specs.Standing.{is_of_indexes}
@@ -28,15 +28,10 @@ use Rattle.th_store.specs.laws.Changes.{created_stands, related_stands}
 use Rattle.th_store.specs.laws.Parts.{pair_is_part}
 use Rattle.th_store.specs.laws.Rules.{created_stay, related_stay, stated_is_pair}
 use Rattle.db_state.specs.laws.ShortRows.{rows_frame}
-use Rattle.db_state.specs.States.{HasShortRows, StoreState, StandsForState, is_built, is_of_rows}
+use Rattle.db_state.specs.States.{HasShortRows, StoreState, StandsForState, is_of_rows}
 use Rattle.db_thes.specs.declared.stating.StatedRelation.{StatedRelation}
 
 -- ---- the kinds of entries
-
-thesauri_built : (k : Kind) → is_built k ≡ false → is_of_thesauri k ≡ false
-thesauri_built kind.Thesauri h = cc
-thesauri_built kind.Relations h = cc
-thesauri_built k h = refl
 
 rows_thesauri : (k : Kind) → is_of_rows k ≡ true → is_of_thesauri k ≡ false
 rows_thesauri kind.Thesauri h = cc
@@ -60,7 +55,6 @@ thesauri_stand : (c : Content) (m : StoreState) (ts : Thesauri) (ws : List (Key 
     → StandsForState (after (spell ws) c) (record m { thesauri = ts })
 thesauri_stand c m ts ws stands of are stand rules = record {
   only = only-after ws c stands.only are;
-  unbuilt = λ k h. at-after ws c k ∙ told_frame is_of_thesauri ws k (at c k) of (thesauri_built k.kind h) ∙ stands.unbuilt k h;
   tables = subst (λ (f : Key → Option (List ℕ)). TablesStand f m.tables) (sym (at_view ws c)) (tables_frame is_of_thesauri ws (at c) m.tables of tables_thesauri stands.tables);
   indexes = subst (λ (f : Key → Option (List ℕ)). IndexesStand f m.tables m.indexes) (sym (at_view ws c)) (indexes_frame kinds kinds_laws.alone is_of_thesauri ws (at c) m.tables m.indexes of indexes_thesauri stands.indexes);
   preferences = subst (λ (f : Key → Option (List ℕ)). PreferencesStand f m.preferences) (sym (at_view ws c)) (preferences_frame is_of_thesauri ws (at c) m.preferences of (other_kinds is_of_thesauri refl refl refl refl) stands.preferences);

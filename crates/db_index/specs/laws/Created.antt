@@ -1,5 +1,5 @@
 -- What a new index puts, by its kind.
-use Rattle.std.proofs.Common.{◌≡◌, ℕ, ℤ, Bool, true, false, cond, List, [], ◌∷◌, length, Option, Some, None, refl}
+use Rattle.std.proofs.Common.{◌≡◌, ◌⊎◌, inl, inr, ℕ, ℤ, Bool, true, false, cond, List, [], ◌∷◌, length, Option, Some, None, refl}
 use Rattle.std.specs.Prelude.{◌||◌}
 use Rattle.std.specs.List.{list_all}
 use Rattle.std.specs.FinMap.{get}
@@ -31,19 +31,22 @@ use Rattle.cat_index.specs.Filings.{sub_text_limit}
 use Rattle.cat_index.specs.Catalogues.{CatalogueBody, filing, filing_of}
 use Rattle.cat_index.specs.Rules.{IsAskedFor, IsCatalogue, IsSubColumn, IsSubSort, column_named}
 use Rattle.cat_index.specs.Changes.{filing_changes, rows_come}
-use Rattle.cat_index.specs.Kind.{new_catalogue_on}
+use Rattle.cat_index.specs.Kind.{catalogue, new_catalogue_on}
 use Rattle.db_state.specs.laws.CatalogueKeys.{filing_are}
 use Rattle.cat_index.specs.laws.Well.{filings_fit}
-use Rattle.ix_indexes.specs.Indexes.{kinds}
+use Rattle.rule_index.specs.RuleIndexes.{RuleBody}
+use Rattle.rule_index.specs.Kind.{rule_indexes}
+use Rattle.ix_indexes.specs.Indexes.{Body, Defined, kinds}
 use Rattle.ix_indexes.specs.laws.Indexes.{kinds_laws}
-use Rattle.db_state.specs.States.{HasShortRows, is_built, is_of_rows}
+use Rattle.db_state.specs.States.{HasShortRows, is_of_rows}
 use Rattle.db_state.specs.laws.ShortRows.{rows_frame, rows_put}
 use Rattle.db_index.specs.declared.kinds.BuiltKind.{BuiltKind}
-use Rattle.db_index.specs.declared.kinds.BuiltKind.TheVariants.{Context, Catalogue}
+use Rattle.db_index.specs.declared.kinds.BuiltKind.TheVariants.{Context, Catalogue, Rules}
 use Rattle.db_index.specs.declared.asking.Wanted.{Wanted}
 use Rattle.db_index.specs.Asking.{SectionsFit, are_sub_columns, is_sub_column, is_sub_sort}
 use Rattle.db_index.specs.Indexing.{all_rows, asked_for}
 use Rattle.db_index.specs.laws.AllRows.{every_row}
+use Rattle.db_index.specs.laws.RuleKeys.{create_are}
 
 -- ---- it asks for what its kind takes
 
@@ -73,33 +76,33 @@ pub may_ask : (b : BuiltKind) (w : Wanted) (t : Table) → are_sub_indexes w.sub
     → kinds.asks t w.prefs (asked_for b w)
 may_ask Context w t few named columns sections = every_row
 may_ask Catalogue w t few named columns sections = record { subs = record { few = few; named = named; columns = all_sub_columns t.columns w.subs columns }; group = sections }
+may_ask Rules w t few named columns sections = tt
+
+-- ---- the kinds of entries
+
+-- those of one index are of indexes
+pub its_of : (body : Body) (ws : List (Key × Option (List ℕ))) → AllOf (is_its kinds body) ws → AllOf is_of_indexes ws
+its_of body ws its = all_weaker (is_its kinds body) is_of_indexes (λ k of. go (is_entry k) (kinds.own body k) (is_of_part k) of (kinds_laws.alone.part body k)) ws its
+  where
+    go : (a b c : Bool) → (a || b) ≡ true → (b ≡ true → c ≡ true) → (a || c) ≡ true
+    go true b c h part = refl
+    go false b c h part = part h
+
+-- and a catalogue and a rule index have no rows of postings
+pub no_rows : (o : CatalogueBody ⊎ RuleBody) (k : Kind) → is_of_rows k ≡ true → is_its kinds (inr o) k ≡ false
+no_rows (inl b) kind.Postings h = refl
+no_rows (inl b) kind.Spans h = refl
+no_rows (inl b) k h = cc
+no_rows (inr b) kind.Postings h = refl
+no_rows (inr b) kind.Spans h = refl
+no_rows (inr b) k h = cc
 
 -- ---- the changes of a new index
 
-module _ (w : Wanted) (t : Table) (i : List ℕ) (on : Target) where
-  -- they are of kinds that are built
-  pub created_built : (b : BuiltKind) (k : Kind) → is_built k ≡ false → is_its kinds (kinds.new_body (asked_for b w) tt t on w.prefs) k ≡ false
-  created_built Context kind.Indexes h = cc
-  created_built Context kind.DocumentRows h = cc
-  created_built Context kind.RowDocuments h = cc
-  created_built Context kind.Pending h = cc
-  created_built Context kind.Postings h = cc
-  created_built Context kind.Spans h = cc
-  created_built Context k h = refl
-  created_built Catalogue kind.Indexes h = cc
-  created_built Catalogue kind.Catalogue h = cc
-  created_built Catalogue k h = refl
-
+module _ (w : Wanted) (thesauri : Defined) (t : Table) (i : List ℕ) (on : Target) where
   -- all of indexes
-  pub created_of : (b : BuiltKind) → AllOf is_of_indexes (kinds.create_changes (asked_for b w) tt t i on w.prefs)
-  created_of b =
-      let body = kinds.new_body (asked_for b w) tt t on w.prefs in
-      all_weaker (is_its kinds body) is_of_indexes (λ k of. go (is_entry k) (kinds.own body k) (is_of_part k) of (kinds_laws.alone.part body k)) (kinds.create_changes (asked_for b w) tt t i on w.prefs)
-      (kinds_laws.creates.of (asked_for b w) tt t i on w.prefs)
-    where
-      go : (a b c : Bool) → (a || b) ≡ true → (b ≡ true → c ≡ true) → (a || c) ≡ true
-      go true b c h part = refl
-      go false b c h part = part h
+  pub created_of : (b : BuiltKind) → AllOf is_of_indexes (kinds.create_changes (asked_for b w) thesauri t i on w.prefs)
+  created_of b = its_of (kinds.new_body (asked_for b w) thesauri t on w.prefs) (kinds.create_changes (asked_for b w) thesauri t i on w.prefs) (kinds_laws.creates.of (asked_for b w) thesauri t i on w.prefs)
 
   module _ (is_t : IsTable t) (name : IsName i) (table : IsName on.table) (prefs : IsPrefs w.prefs) where
     -- what each row has in a new catalogue
@@ -118,22 +121,21 @@ module _ (w : Wanted) (t : Table) (i : List ℕ) (on : Target) where
       rows_are [] = tt
       rows_are (r ∷ rs) = are-append (filing_changes i r (filing_of it r (get t.rows r)) true) (rows_come i it t rs) (row_is r (get t.rows r) refl) (rows_are rs)
 
-    in_context : kinds.can_create t (asked_for Context w) ≡ true → AreIndexChanges (kinds.create_changes (asked_for Context w) tt t i on w.prefs)
+    in_context : kinds.can_create t (asked_for Context w) ≡ true → AreIndexChanges (kinds.create_changes (asked_for Context w) thesauri t i on w.prefs)
     in_context room = index_changes_create t i on w.prefs all_rows is_t name table prefs (leb-true (length (rows_within t all_rows)) mark_limit room)
 
     -- they are on keys
-    pub created_are : (b : BuiltKind) → kinds.asks t w.prefs (asked_for b w) → kinds.can_create t (asked_for b w) ≡ true → AreChanges (kinds.create_changes (asked_for b w) tt t i on w.prefs)
-    created_are Context asked room = are_changes (kinds.create_changes (asked_for Context w) tt t i on w.prefs) (in_context room)
+    pub created_are : (b : BuiltKind) → kinds.asks t w.prefs (asked_for b w) → kinds.can_create t (asked_for b w) ≡ true → AreChanges (kinds.create_changes (asked_for b w) thesauri t i on w.prefs)
+    created_are Context asked room = are_changes (kinds.create_changes (asked_for Context w) thesauri t i on w.prefs) (in_context room)
     created_are Catalogue asked room = (record { owner = name; part = refl }, rows_are asked (row_keys_of t))
+    created_are Rules asked room = create_are thesauri t i on w.prefs name is_t
+
+    without_rows : (b : BuiltKind) (o : CatalogueBody ⊎ RuleBody) (f : Key → Option (List ℕ)) → HasShortRows f → AllOf (is_its kinds (inr o)) (kinds.create_changes (asked_for b w) thesauri t i on w.prefs)
+        → HasShortRows (view (kinds.create_changes (asked_for b w) thesauri t i on w.prefs) f)
+    without_rows b o f short of = rows_frame (is_its kinds (inr o)) (kinds.create_changes (asked_for b w) thesauri t i on w.prefs) f of (no_rows o) short
 
     -- and the rows of postings stay short
-    no_rows : (k : Kind) → is_of_rows k ≡ true → is_its kinds (kinds.new_body (asked_for Catalogue w) tt t on w.prefs) k ≡ false
-    no_rows kind.Postings h = refl
-    no_rows kind.Spans h = refl
-    no_rows k h = cc
-
-    pub created_short : (b : BuiltKind) (f : Key → Option (List ℕ)) → kinds.can_create t (asked_for b w) ≡ true → HasShortRows f → HasShortRows (view (kinds.create_changes (asked_for b w) tt t i on w.prefs) f)
-    created_short Context f room short = rows_put (kinds.create_changes (asked_for Context w) tt t i on w.prefs) f (in_context room) short
-    created_short Catalogue f room short =
-        rows_frame (is_its kinds (kinds.new_body (asked_for Catalogue w) tt t on w.prefs)) (kinds.create_changes (asked_for Catalogue w) tt t i on w.prefs) f
-        (kinds_laws.creates.of (asked_for Catalogue w) tt t i on w.prefs) no_rows short
+    pub created_short : (b : BuiltKind) (f : Key → Option (List ℕ)) → kinds.can_create t (asked_for b w) ≡ true → HasShortRows f → HasShortRows (view (kinds.create_changes (asked_for b w) thesauri t i on w.prefs) f)
+    created_short Context f room short = rows_put (kinds.create_changes (asked_for Context w) thesauri t i on w.prefs) f (in_context room) short
+    created_short Catalogue f room short = without_rows Catalogue (inl (catalogue.new_body w.subs thesauri t on w.prefs)) f short (kinds_laws.creates.of (asked_for Catalogue w) thesauri t i on w.prefs)
+    created_short Rules f room short = without_rows Rules (inr (rule_indexes.new_body tt thesauri t on w.prefs)) f short (kinds_laws.creates.of (asked_for Rules w) thesauri t i on w.prefs)

@@ -1,5 +1,5 @@
 -- The state after a synchronisation, and after a new index.
-use Rattle.std.proofs.Common.{◌≡◌, ℕ, ◌+◌, ◌≤◌, ◌<◌, Bool, false, true, cond, List, [], ◌∷◌, length, Option, Some, None, refl, sym, ap, subst, ◌∙◌, arith}
+use Rattle.std.proofs.Common.{◌≡◌, inl, inr, ℕ, ◌+◌, ◌≤◌, ◌<◌, Bool, false, true, cond, List, [], ◌∷◌, length, Option, Some, None, refl, sym, ap, subst, ◌∙◌, arith}
 use Rattle.std.specs.Prelude.{is_some, ◌&&◌, ◌==◌, nat_le}
 use Rattle.std.specs.List.{list_all, list_any}
 use Rattle.std.specs.Ordering.{nat_cmp, eq_by_cmp}
@@ -13,11 +13,9 @@ use Rattle.ct_base.specs.Names.{IsName, is_kept}
 use Rattle.ct_entry.specs.Keys.{Key, at, same_list}
 use Rattle.ct_entry.specs.laws.Keys.{list_from_same, list_same}
 use Rattle.ct_entry.specs.Maps.{Names, altered}
-use Rattle.ct_entry.specs.Changes.{spell}
-use Rattle.ct_entry.specs.laws.Changes.{at_view, at-after, only-after, told_frame}
+use Rattle.ct_entry.specs.Changes.{AllOf, AreChanges, spell, view}
 use Rattle.tb_table.specs.Tables.{Table, Tables}
-use Rattle.tb_table.specs.Spelling.{TablesStand}
-use Rattle.tb_table.specs.laws.Changes.{tables_frame}
+use Rattle.tb_table.specs.Rules.{IsTable}
 use Rattle.tx_settings.specs.PrefsBytes.{IsPrefs}
 use Rattle.tx_sets.specs.Sets.{are_sub_indexes}
 use Rattle.ix_kinds.specs.Rows.{table_at, table_or_none}
@@ -29,30 +27,26 @@ use Rattle.ix_kinds.specs.Statements.{index_after_sync, indexes_after_sync, new_
 use Rattle.ix_kinds.specs.laws.Syncs.{sync_stands, sync_keeps}
 use Rattle.ix_kinds.specs.laws.Creates.{create_stands, create_keeps}
 use Rattle.db_names.specs.declared.heads.IndexKind.{IndexKind}
-use Rattle.db_names.specs.declared.heads.IndexKind.TheVariants as kept
 use Rattle.db_names.specs.Heads.{index_code}
 use Rattle.db_state.specs.Lookups.{is_on_column}
 use Rattle.ix_context.specs.Indexes.{ContextIndex, mark_limit, waiting_rows}
-use Rattle.ix_context.specs.Spelling.{is_of_context}
-use Rattle.ix_context.specs.laws.Well.{AreIndexChanges, are_changes, all_of_context, index_changes_sync}
-use Rattle.ix_indexes.specs.Indexes.{Index, as_index, kinds, IndexesStand}
-use Rattle.ix_indexes.specs.laws.Indexes.{context_is, is_context, kinds_laws}
+use Rattle.ix_context.specs.laws.Well.{AreIndexChanges, are_changes, index_changes_sync}
+use Rattle.ix_indexes.specs.Indexes.{Body, Defined, Index, as_index, kinds}
+use Rattle.ix_indexes.specs.laws.Indexes.{context_is, kind_is, kinds_laws}
 use Rattle.ix_kinds.specs.laws.Tables.{table_is}
 use Rattle.db_index.specs.declared.kinds.BuiltKind.{BuiltKind}
-use Rattle.db_index.specs.declared.kinds.BuiltKind.TheVariants.{Context, Catalogue}
+use Rattle.db_index.specs.declared.kinds.BuiltKind.TheVariants.{Context, Catalogue, Rules}
 use Rattle.db_index.specs.declared.asking.Wanted.{Wanted}
 use Rattle.db_index.specs.Kinds.{index_kind}
 use Rattle.db_index.specs.Asking.{are_sub_columns}
 use Rattle.db_index.specs.Syncing.{has_too_many, with_synced}
 use Rattle.db_index.specs.Indexing.{asked_for, has_index_on, has_too_many_rows, target, with_new_index, IsFreeIndex}
-use Rattle.tx_prefs.specs.Spelling.{PreferencesStand}
-use Rattle.tx_prefs.specs.laws.Changes.{preferences_frame, other_kinds}
-use Rattle.th_store.specs.laws.Changes.{thesauri_unchanged}
-use Rattle.db_state.specs.laws.ShortRows.{rows_put}
-use Rattle.db_state.specs.laws.Kinds.{context_built, tables_no_context, tables_no_indexes}
-use Rattle.db_state.specs.States.{StoreState, IsState, StandsForState, HasShortRows, indexes_on, index_limit}
+use Rattle.db_state.specs.laws.ShortRows.{rows_frame, rows_put}
+use Rattle.db_state.specs.States.{StoreState, StandsForState, HasShortRows, indexes_on, index_limit, named_thesauri}
 use Rattle.db_index.specs.laws.Counting.{one, counted, count_insert, one_true, one_false}
-use Rattle.db_index.specs.laws.Created.{created_are, created_built, created_of, created_short, may_ask}
+use Rattle.db_index.specs.laws.IndexChanges.{indexes_changed}
+use Rattle.db_index.specs.laws.RuleKeys.{sync_are}
+use Rattle.db_index.specs.laws.Created.{created_are, created_of, created_short, its_of, may_ask, no_rows}
 use Rattle.ct_base.specs.laws.Options.{no_value as no_some}
 
 -- ---- the state after a synchronisation
@@ -61,59 +55,63 @@ room_left : (x : Index) → has_too_many x ≡ false → kinds.can_sync x ≡ tr
 room_left x h = not_false (kinds.can_sync x) h
 
 -- a table has as many indexes as before
-few_synced : (ts : Tables) (xs : Names Index) (i : List ℕ) (x : Index) → get xs i ≡ Some x → (t : List ℕ) → length (indexes_on (indexes_after_sync kinds tt ts i xs) t) ≡ length (indexes_on xs t)
-few_synced ts xs i x there t =
-    let is : indexes_after_sync kinds tt ts i xs ≡ insert xs i (index_after_sync kinds tt ts x) = ap (altered xs i (index_after_sync kinds tt ts)) there in
-    let counts = count_insert (slice_cmp nat_cmp) (λ (y : Index). same_list y.table t) nat_list_cmp_total xs i (index_after_sync kinds tt ts x) in
+few_synced : (d : Defined) (ts : Tables) (xs : Names Index) (i : List ℕ) (x : Index) → get xs i ≡ Some x → (t : List ℕ) → length (indexes_on (indexes_after_sync kinds d ts i xs) t) ≡ length (indexes_on xs t)
+few_synced d ts xs i x there t =
+    let is : indexes_after_sync kinds d ts i xs ≡ insert xs i (index_after_sync kinds d ts x) = ap (altered xs i (index_after_sync kinds d ts)) there in
+    let counts = count_insert (slice_cmp nat_cmp) (λ (y : Index). same_list y.table t) nat_list_cmp_total xs i (index_after_sync kinds d ts x) in
     ap (λ (ys : Names Index). length (indexes_on ys t)) is ∙ alike (get xs i) there counts
   where
     alike : (o : Option Index) → o ≡ Some x
-        → length (indexes_on (insert xs i (index_after_sync kinds tt ts x)) t) + counted (slice_cmp nat_cmp) (λ (y : Index). same_list y.table t) o ≡ length (indexes_on xs t) + one (same_list x.table t)
-        → length (indexes_on (insert xs i (index_after_sync kinds tt ts x)) t) ≡ length (indexes_on xs t)
+        → length (indexes_on (insert xs i (index_after_sync kinds d ts x)) t) + counted (slice_cmp nat_cmp) (λ (y : Index). same_list y.table t) o ≡ length (indexes_on xs t) + one (same_list x.table t)
+        → length (indexes_on (insert xs i (index_after_sync kinds d ts x)) t) ≡ length (indexes_on xs t)
     alike None e counts = cc
     alike (Some y) e counts =
         let same : counted {K = List ℕ} (slice_cmp nat_cmp) (λ (z : Index). same_list z.table t) (Some y) ≡ one (same_list x.table t) = ap (counted {K = List ℕ} (slice_cmp nat_cmp) (λ (z : Index). same_list z.table t)) e in
         omega (arith, counts, same)
 
--- the changes are ones of the entries of CONTEXT indexes
-sync_changes_are : (m : StoreState) (i : List ℕ) (x : IndexOf ContextIndex) → IsState m → get m.indexes i ≡ Some (as_index x) → has_too_many (as_index x) ≡ false
-    → AreIndexChanges (kinds.sync_changes tt (table_at m.tables x.table) i (as_index x))
-sync_changes_are m i x state there few =
-    let index = state.indexes.each i (as_index x) there in
-    index_changes_sync (table_at m.tables x.table) i x (table_is m.tables x.table index.target.table state.tables index.target.there) (state.indexes.names i (as_index x) there) (state.tables.names x.table index.target.table index.target.there)
-    index.prefs (context_is m.tables x index) (leb-true (x.body.part.given + length (waiting_rows x.body.marks)) mark_limit (room_left (as_index x) few))
+module _ (c : Content) (m : StoreState) (i : List ℕ) (stands : StandsForState c m) where
+  module _ (x : Index) (there : get m.indexes i ≡ Some x) (room : has_too_many x ≡ false) where
+    abbrev put : List (Key × Option (List ℕ))
+    put = kinds.sync_changes (named_thesauri m) (table_at m.tables x.table) i x
 
-context_synced : (c : Content) (m : StoreState) (i : List ℕ) (x : IndexOf ContextIndex) → StandsForState c m → get m.indexes i ≡ Some (as_index x) → has_too_many (as_index x) ≡ false
-    → StandsForState (after (spell (kinds.sync_changes tt (table_at m.tables x.table) i (as_index x))) c) (with_synced m i)
-context_synced c m i x stands there few =
-    let ws = kinds.sync_changes tt (table_at m.tables x.table) i (as_index x) in
-    let are = sync_changes_are m i x stands.state there few in
-    record {
-      only = only-after ws c stands.only (are_changes ws are);
-      unbuilt = λ k h. at-after ws c k ∙ told_frame is_of_context ws k (at c k) (all_of_context ws are) (context_built k.kind h) ∙ stands.unbuilt k h;
-      tables = subst (λ (f : Key → Option (List ℕ)). TablesStand f m.tables) (sym (at_view ws c)) (tables_frame is_of_context ws (at c) m.tables (all_of_context ws are) tables_no_context stands.tables);
-      indexes = subst (λ (f : Key → Option (List ℕ)). IndexesStand f m.tables (indexes_after_sync kinds tt m.tables i m.indexes)) (sym (at_view ws c))
-          (sync_stands kinds kinds_laws (at c) m.tables m.indexes tt i (as_index x) there (room_left (as_index x) few) stands.state.tables stands.state.indexes stands.indexes);
-      preferences = subst (λ (f : Key → Option (List ℕ)). PreferencesStand f m.preferences) (sym (at_view ws c)) (preferences_frame is_of_context ws (at c) m.preferences (all_of_context ws are) (other_kinds is_of_context refl refl refl refl) stands.preferences);
-      thesauri = thesauri_unchanged is_of_context ws c m.thesauri (all_of_context ws are) refl refl stands.thesauri;
-      short_rows = subst HasShortRows (sym (at_view ws c)) (rows_put ws (at c) are stands.short_rows);
-      state = record {
-        tables = stands.state.tables;
-        indexes = sync_keeps kinds kinds_laws m.tables m.indexes tt i (as_index x) there (room_left (as_index x) few) stands.state.tables stands.state.indexes;
-        views = stands.state.views;
-        preferences = stands.state.preferences;
-        thesauri = stands.state.thesauri;
-        few = λ t. subst (λ (n : ℕ). n ≤ index_limit) (sym (few_synced m.tables m.indexes i (as_index x) there t)) (stands.state.few t);
-      };
-    }
+    put_of : AllOf is_of_indexes put
+    put_of = its_of x.body put (kinds_laws.syncs.own (named_thesauri m) (table_at m.tables x.table) i x).of
 
--- of an index of the kind CONTEXT
-pub synced_stands : (c : Content) (m : StoreState) (i : List ℕ) (x : Index) → kinds.kind x.body ≡ kept.Context → StandsForState c m → get m.indexes i ≡ Some x → has_too_many x ≡ false
-    → StandsForState (after (spell (kinds.sync_changes tt (table_at m.tables x.table) i x)) c) (with_synced m i)
-synced_stands c m i x of stands there few =
-    let y = is_context x of in
-    subst (λ (z : Index). StandsForState (after (spell (kinds.sync_changes tt (table_at m.tables z.table) i z)) c) (with_synced m i)) (sym y.1)
-    (context_synced c m i (with_body x y.0) stands (there ∙ ap Some y.1) (sym (ap has_too_many y.1) ∙ few))
+    its_table : IsTable (table_at m.tables x.table)
+    its_table = let target = (stands.state.indexes.each i x there).target in table_is m.tables x.table target.table stands.state.tables target.there
+
+    -- where the changes are on keys, and leave the rows of postings short
+    stands_synced : AreChanges put → HasShortRows (view put (at c)) → StandsForState (after (spell put) c) (with_synced m i)
+    stands_synced are short =
+        indexes_changed c m put (indexes_after_sync kinds (named_thesauri m) m.tables i m.indexes) stands put_of are short
+        (sync_stands kinds kinds_laws (at c) m.tables m.indexes (named_thesauri m) i x there (room_left x room) stands.state.tables stands.state.indexes stands.indexes)
+        (sync_keeps kinds kinds_laws m.tables m.indexes (named_thesauri m) i x there (room_left x room) stands.state.tables stands.state.indexes)
+        (λ t. subst (λ (n : ℕ). n ≤ index_limit) (sym (few_synced (named_thesauri m) m.tables m.indexes i x there t)) (stands.state.few t))
+
+  -- those of a CONTEXT index are ones of its kind
+  context_put : (x : IndexOf ContextIndex) (there : get m.indexes i ≡ Some (as_index x)) (room : has_too_many (as_index x) ≡ false) → AreIndexChanges (put (as_index x) there room)
+  context_put x there room =
+      let index = stands.state.indexes.each i (as_index x) there in
+      index_changes_sync (table_at m.tables x.table) i x (its_table (as_index x) there room) (stands.state.indexes.names i (as_index x) there) (stands.state.tables.names x.table index.target.table index.target.there)
+      index.prefs (context_is m.tables x index) (leb-true (x.body.part.given + length (waiting_rows x.body.marks)) mark_limit (room_left (as_index x) room))
+
+  -- by what the index is
+  synced_by : (x : Index) (b : Body) → get m.indexes i ≡ Some (with_body x b) → has_too_many (with_body x b) ≡ false
+      → StandsForState (after (spell (kinds.sync_changes (named_thesauri m) (table_at m.tables x.table) i (with_body x b))) c) (with_synced m i)
+  synced_by x (inl b) there room =
+      let are = context_put (with_body x b) there room in
+      stands_synced (with_body x (inl b)) there room (are_changes (put (with_body x (inl b)) there room) are) (rows_put (put (with_body x (inl b)) there room) (at c) are stands.short_rows)
+  synced_by x (inr (inl b)) there room = let wrong : true ≡ false = room in cc
+  synced_by x (inr (inr b)) there room =
+      let y : Index = with_body x (inr (inr b)) in
+      let own = kinds_laws.syncs.own (named_thesauri m) (table_at m.tables x.table) i y in
+      stands_synced y there room
+      (sync_are (named_thesauri m) (table_at m.tables x.table) i (with_body x b) (stands.state.indexes.names i y there) (its_table y there room) (kind_is m.tables y (stands.state.indexes.each i y there)))
+      (rows_frame (is_its kinds y.body) (put y there room) (at c) own.of (no_rows (inr b)) stands.short_rows)
+
+pub synced_stands : (c : Content) (m : StoreState) (i : List ℕ) (x : Index) → StandsForState c m → get m.indexes i ≡ Some x → has_too_many x ≡ false
+    → StandsForState (after (spell (kinds.sync_changes (named_thesauri m) (table_at m.tables x.table) i x)) c) (with_synced m i)
+synced_stands c m i x stands there room = synced_by c m i stands x x.body there room
 
 -- ---- the state after a new index
 
@@ -161,17 +159,19 @@ few_created xs i x none t room few =
         let more : one (same_list x.table t) ≡ 0 = ap one is ∙ one_false in
         omega (arith, counts, free, more, few)
 
-of_kind : (b : BuiltKind) (w : Wanted) (ts : Tables) (t : List ℕ) (place : ℕ) → kinds.kind (new_index kinds (asked_for b w) tt ts (target t place) w.prefs).body ≡ index_kind b
-of_kind Context w ts t place = refl
-of_kind Catalogue w ts t place = refl
+of_kind : (b : BuiltKind) (w : Wanted) (d : Defined) (ts : Tables) (t : List ℕ) (place : ℕ) → kinds.kind (new_index kinds (asked_for b w) d ts (target t place) w.prefs).body ≡ index_kind b
+of_kind Context w d ts t place = refl
+of_kind Catalogue w d ts t place = refl
+of_kind Rules w d ts t place = refl
 
 pub new_index_stands : (c : Content) (m : StoreState) (i t : List ℕ) (b : BuiltKind) (x : Table) (place : ℕ) (w : Wanted) → StandsForState c m → IsName i → IsPrefs w.prefs → are_sub_indexes w.subs ≡ true
     → list_all (list_all is_kept) w.subs ≡ true → IsFreeIndex m i t b x place w
-    → StandsForState (after (spell (kinds.create_changes (asked_for b w) tt (table_at m.tables t) i (target t place) w.prefs)) c) (with_new_index m i t b place w)
+    → StandsForState (after (spell (kinds.create_changes (asked_for b w) (named_thesauri m) (table_at m.tables t) i (target t place) w.prefs)) c) (with_new_index m i t b place w)
 new_index_stands c m i t b x place w stands name are_prefs subs named free =
     let a = asked_for b w in
+    let d = named_thesauri m in
     let here : table_at m.tables t ≡ x = ap table_or_none free.there in
-    let ws = kinds.create_changes a tt (table_at m.tables t) i (target t place) w.prefs in
+    let ws = kinds.create_changes a d (table_at m.tables t) i (target t place) w.prefs in
     let few = either (nat_le index_limit (length (indexes_on m.indexes t))) (has_too_many_rows m t b w) free.few in
     let room : kinds.can_create (table_at m.tables t) a ≡ true = not_false (kinds.can_create (table_at m.tables t) a) few.1 in
     let taken = either (is_some (get m.indexes i)) (has_index_on (index_kind b) m.indexes t place) free.free in
@@ -179,28 +179,11 @@ new_index_stands c m i t b x place w stands name are_prefs subs named free =
     let asked : kinds.asks (table_at m.tables t) w.prefs a = may_ask b w (table_at m.tables t) subs named (ap (λ (y : Table). are_sub_columns y.columns w.subs) here ∙ free.subs) free.sections in
     let is_t = table_is m.tables t x stands.state.tables free.there in
     let table = stands.state.tables.names t x free.there in
-    let of = created_of w (table_at m.tables t) i (target t place) b in
     let on = target_of_texts m t x place free.there free.texts in
-    record {
-      only = only-after ws c stands.only (created_are w (table_at m.tables t) i (target t place) is_t name table are_prefs b asked room);
-      unbuilt = λ k h.
-          at-after ws c k
-          ∙ told_frame (is_its kinds (kinds.new_body a tt (table_at m.tables t) (target t place) w.prefs)) ws k (at c k) (kinds_laws.creates.of a tt (table_at m.tables t) i (target t place) w.prefs)
-          (created_built w (table_at m.tables t) i (target t place) b k.kind h)
-          ∙ stands.unbuilt k h;
-      tables = subst (λ (f : Key → Option (List ℕ)). TablesStand f m.tables) (sym (at_view ws c)) (tables_frame is_of_indexes ws (at c) m.tables of tables_no_indexes stands.tables);
-      indexes = subst (λ (f : Key → Option (List ℕ)). IndexesStand f m.tables (with_index kinds a tt m.tables i (target t place) w.prefs m.indexes)) (sym (at_view ws c))
-          (create_stands kinds kinds_laws (at c) m.tables m.indexes a tt i (target t place) w.prefs none on are_prefs asked room stands.state.tables stands.indexes);
-      preferences = subst (λ (f : Key → Option (List ℕ)). PreferencesStand f m.preferences) (sym (at_view ws c)) (preferences_frame is_of_indexes ws (at c) m.preferences of (other_kinds is_of_indexes refl refl refl refl) stands.preferences);
-      thesauri = thesauri_unchanged is_of_indexes ws c m.thesauri of refl refl stands.thesauri;
-      short_rows = subst HasShortRows (sym (at_view ws c)) (created_short w (table_at m.tables t) i (target t place) is_t name table are_prefs b (at c) room stands.short_rows);
-      state = record {
-        tables = stands.state.tables;
-        indexes = create_keeps kinds kinds_laws m.tables m.indexes a tt i (target t place) w.prefs name none on are_prefs
-            (subst (IsFreeColumn kinds m.indexes (target t place)) (sym (of_kind b w m.tables t place)) (column_free (index_kind b) m.indexes t place taken.1)) asked room stands.state.tables stands.state.indexes;
-        views = stands.state.views;
-        preferences = stands.state.preferences;
-        thesauri = stands.state.thesauri;
-        few = λ q. few_created m.indexes i (new_index kinds a tt m.tables (target t place) w.prefs) none q (leb-false index_limit (length (indexes_on m.indexes t)) few.0) stands.state.few;
-      };
-    }
+    indexes_changed c m ws (with_index kinds a d m.tables i (target t place) w.prefs m.indexes) stands (created_of w d (table_at m.tables t) i (target t place) b)
+    (created_are w d (table_at m.tables t) i (target t place) is_t name table are_prefs b asked room)
+    (created_short w d (table_at m.tables t) i (target t place) is_t name table are_prefs b (at c) room stands.short_rows)
+    (create_stands kinds kinds_laws (at c) m.tables m.indexes a d i (target t place) w.prefs none on are_prefs asked room stands.state.tables stands.indexes)
+    (create_keeps kinds kinds_laws m.tables m.indexes a d i (target t place) w.prefs name none on are_prefs
+    (subst (IsFreeColumn kinds m.indexes (target t place)) (sym (of_kind b w d m.tables t place)) (column_free (index_kind b) m.indexes t place taken.1)) asked room stands.state.tables stands.state.indexes)
+    (λ q. few_created m.indexes i (new_index kinds a d m.tables (target t place) w.prefs) none q (leb-false index_limit (length (indexes_on m.indexes t)) few.0) stands.state.few)

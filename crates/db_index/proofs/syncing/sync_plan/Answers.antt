@@ -31,8 +31,8 @@ pub returns-in_default-found-clause-plan : goal.returns-in_default-found-clause-
 returns-in_default-found-clause-plan g c = record {
   made = λ m k holds stands.
       let x =
-      sync_there m c.args.args.now c.args.name.now c.in-Some-name.index c.in_ok-kind.kind c.is_some.result _ c.is_other_kind.result c.sync_fault.result c.requires.named c.in-Some-name.is (c.in_ok-kind.ensures.kind m k holds stands)
-      c.is_some.ensures c.unknown_name-unknown.ensures c.is_other_kind.ensures c.in_default.is c.sync_fault.ensures in
+      sync_there m c.args.args.now c.args.name.now c.in-Some-name.index c.in_ok-kind.kind c.is_some.result _ c.is_other_kind.result c.is_rule_index.result c.sync_fault.result c.requires.named c.in-Some-name.is (c.in_ok-kind.ensures.kind m k holds stands)
+      c.is_some.ensures c.unknown_name-unknown.ensures c.is_other_kind.ensures c.is_rule_index.ensures c.in_default.is c.sync_fault.ensures in
       x.3 ∙ fails _ LimitReached _ (match_none c.in_ok-found.found _ _ c.in_default-found.is (c.in_ok-found.ensures.changes m k x.0 (reads_hold _ _ k c.in_ok-kind.ensures.reads holds) stands x.1 x.2));
 }
 
@@ -41,11 +41,11 @@ returns-clause-plan g c = record {
   made = λ m k holds stands.
       let i = c.in-Some-name.index in
       let x =
-      sync_there m c.args.args.now c.args.name.now i c.in_ok-kind.kind c.is_some.result _ c.is_other_kind.result c.sync_fault.result c.requires.named c.in-Some-name.is (c.in_ok-kind.ensures.kind m k holds stands)
-      c.is_some.ensures c.unknown_name-unknown.ensures c.is_other_kind.ensures c.in_default.is c.sync_fault.ensures in
+      sync_there m c.args.args.now c.args.name.now i c.in_ok-kind.kind c.is_some.result _ c.is_other_kind.result c.is_rule_index.result c.sync_fault.result c.requires.named c.in-Some-name.is (c.in_ok-kind.ensures.kind m k holds stands)
+      c.is_some.ensures c.unknown_name-unknown.ensures c.is_other_kind.ensures c.is_rule_index.ensures c.in_default.is c.sync_fault.ensures in
       let found = found_some c.in_ok-found.found c.in-Some-found.batch _ _ c.in-Some-found.is (c.in_ok-found.ensures.changes m k x.0 (reads_hold _ _ k c.in_ok-kind.ensures.reads holds) stands x.1 x.2) in (
         with_synced m i,
         x.3 ∙ passes _ LimitReached _ found.0,
-        subst (λ (b : List (List ℕ × Option (List ℕ))). StandsForState (after b k) (with_synced m i)) (sym found.1) (synced_stands k m i x.0 x.2 stands x.1 found.0),
+        subst (λ (b : List (List ℕ × Option (List ℕ))). StandsForState (after b k) (with_synced m i)) (sym found.1) (synced_stands k m i x.0 stands x.1 found.0),
       );
 }

@@ -1,19 +1,20 @@
-use Rattle.std.proofs.Common.{Err, ap}
-use Rattle.db_state.specs.laws.Contexts.{holds_index}
-use Rattle.db_index.proofs.PlanShapes.{of_contexts}
-use Rattle.db_index.proofs.SyncSteps.{context_of, sync_makes, sync_makes_none}
+use Rattle.std.proofs.Common.{ap, ◌∙◌}
+use Rattle.ct_keep.specs.laws.Composing.{reads_hold}
+use Rattle.q_reduce.specs.Results.{named_pairs}
+use Rattle.db_state.specs.laws.Contexts.{holds_rule_index}
+use Rattle.db_index.specs.Syncing.{synced_kind}
+use Rattle.db_index.proofs.PlanShapes.{of_rules}
+use Rattle.db_index.proofs.SyncSteps.{rules_of, sync_makes_rules}
 use Rattle.db_index.proofs.syncing.synced.Goals as goal
 
-pub returns-in-Ok-clause-changes : goal.returns-in-Ok-clause-changes
-returns-in-Ok-clause-changes g c = λ m k x holds stands there of.
-    let y = context_of m c.args.index.now x there of in
-    let told = holds_index k m stands c.args.index.now y.0 y.2 in
-    sync_makes c.args.index.now m x y.0 y.1 c.new-batch.result c.sync.new.batch c.new-batch.ensures (c.in-Ok.ensures.room k m.tables y.0 holds told) (c.in-Ok.ensures.changes k m.tables y.0 holds told)
+pub returns-then-not-rules-clause-changes : goal.returns-then-not-rules-clause-changes
+returns-then-not-rules-clause-changes g c = λ m k x holds stands there of. c.synced_context.ensures.changes m k x holds stands there (of ∙ ap synced_kind c.if-not-rules.true)
 
-pub returns-in-Err-TooMany-clause-changes : goal.returns-in-Err-TooMany-clause-changes
-returns-in-Err-TooMany-clause-changes g c = λ m k x holds stands there of.
-    let y = context_of m c.args.index.now x there of in
-    sync_makes_none x y.0 y.1 (c.in-Err-TooMany.ensures.many k m.tables y.0 holds (holds_index k m stands c.args.index.now y.0 y.2) (ap Err c.in-Err-TooMany.field-0-is))
+pub returns-clause-changes : goal.returns-clause-changes
+returns-clause-changes g c = λ m k x holds stands there of.
+    let y = rules_of m c.args.index.now x there (of ∙ ap synced_kind c.if-not-rules.false) in
+    sync_makes_rules c.args.index.now m x y.0 y.1 (named_pairs c.deref.result.now) (ap named_pairs c.deref.ensures.value ∙ c.in_ok-thesauri.ensures.thesauri m k holds stands) c.new-batch.result c.sync.new.batch c.new-batch.ensures
+    (c.in_ok-sync.ensures.changes k m.tables y.0 (reads_hold _ _ k c.in_ok-thesauri.ensures.reads holds) (holds_rule_index k m stands c.args.index.now y.0 y.2))
 
-pub returns-in-Ok-clause-entries : goal.returns-in-Ok-clause-entries
-returns-in-Ok-clause-entries g c = of_contexts c.new-batch.result c.sync.new.batch c.new-batch.ensures c.in-Ok.ensures.shaped
+pub returns-clause-entries : goal.returns-clause-entries
+returns-clause-entries g c = of_rules c.new-batch.result c.sync.new.batch c.new-batch.ensures c.in_ok-sync.ensures.shaped
