@@ -1,6 +1,7 @@
 pub mod Bounds
 pub mod CatalogueSteps
 pub mod Enough
+pub mod MatchSteps
 pub mod Narrowing
 pub mod PlainQueries
 pub mod Refusals

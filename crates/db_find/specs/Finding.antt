@@ -20,6 +20,7 @@ use Rattle.ix_context.specs.Indexes.{ContextIndex}
 use Rattle.cat_where.specs.declared.stages.Where.{Where}
 use Rattle.cat_where.specs.Verdicts.{verdict as where_verdict}
 use Rattle.cat_index.specs.Catalogues.{CatalogueBody}
+use Rattle.rule_index.specs.RuleIndexes.{RuleIndex}
 use Rattle.ix_indexes.specs.Indexes.{Body, Index, kinds}
 use Rattle.ix_search.specs.Finding.{found}
 use Rattle.ix_search.specs.declared.hits.Hit.{Hit}
@@ -29,9 +30,10 @@ use Rattle.db_rows.specs.Meeting.{key_meets}
 use Rattle.db_find.specs.declared.finding.Found.{Found}
 use Rattle.db_find.specs.declared.finding.Found.TheVariants.{Refused, Rows}
 use Rattle.db_find.specs.Querying.{Meaning, Finds, meaning_of, refusal_in}
-use Rattle.db_find.specs.Searches.{Search, Catsearch, Contains, search_kind, threshold_of}
+use Rattle.db_find.specs.Searches.{Search, Catsearch, Contains, Matches, search_kind, threshold_of}
 use Rattle.db_find.specs.Structured.{asked_where, nothing_asked, where_found}
 use Rattle.db_find.specs.Catalogues.{catalogue_refusal, catalogue_rows, rows_meant, unscored}
+use Rattle.db_find.specs.Matching.{rule_rows, rules_held}
 
 -- ---- CONTAINS
 
@@ -42,11 +44,13 @@ found_by ts x meaning threshold = []
 
 -- ---- each kind
 
--- by what the index is, which for CATSEARCH is a catalogue
+-- by what the index is, which for CATSEARCH is a catalogue; a document is never refused by its words
 abbrev pub refusal_of_kind : Tables → Thesauri → Index → Body → Search → Option Refusal
 refusal_of_kind ts thesauri x body (Contains column query label above) = refusal_in (meaning_of x.prefs thesauri query)
 refusal_of_kind ts thesauri x (inl c) (Catsearch column query structured) = None
-refusal_of_kind ts thesauri x (inr b) (Catsearch column query structured) = catalogue_refusal ts (with_body x b) query structured
+refusal_of_kind ts thesauri x (inr (inl b)) (Catsearch column query structured) = catalogue_refusal ts (with_body x b) query structured
+refusal_of_kind ts thesauri x (inr (inr b)) (Catsearch column query structured) = None
+refusal_of_kind ts thesauri x body (Matches column document) = None
 
 -- WHY A SEARCH IS REFUSED by its index, if it is, where these tables and thesauri are there
 abbrev pub search_refusal : Tables → Thesauri → Index → Search → Option Refusal
@@ -55,9 +59,9 @@ search_refusal ts thesauri x s = refusal_of_kind ts thesauri x x.body s
 -- an index of another kind than the one that answers it finds nothing
 abbrev pub rows_in : Tables → Thesauri → Index → Body → Search → List (ℤ × ℕ)
 rows_in ts thesauri x (inl c) (Contains column query label above) = found_by ts (with_body x c) (meaning_of x.prefs thesauri query) (threshold_of above)
-rows_in ts thesauri x (inl c) (Catsearch column query structured) = []
-rows_in ts thesauri x (inr b) (Contains column query label above) = []
-rows_in ts thesauri x (inr b) (Catsearch column query structured) = catalogue_rows ts (with_body x b) query
+rows_in ts thesauri x (inr (inl b)) (Catsearch column query structured) = catalogue_rows ts (with_body x b) query
+rows_in ts thesauri x (inr (inr b)) (Matches column document) = rule_rows (with_body x b) document
+rows_in ts thesauri x body s = []
 
 -- THE ROWS THAT A SEARCH FINDS in its index, where these tables and thesauri are there: their keys with their scores, in the order of the keys
 abbrev pub search_rows : Tables → Thesauri → Index → Search → List (ℤ × ℕ)
@@ -117,6 +121,14 @@ GivesMeant ts x flat w (Rows hits asked) = (asked ≡ w) × AreEnough (table_at 
 abbrev pub FindsByTexts : Tables → IndexOf CatalogueBody → List ℕ → List ℕ → Result Found KeepFault → Type 0
 FindsByTexts ts x query structured result =
     IfOk result (GivesFound (catalogue_refusal ts x query structured) (table_at ts x.table) (catalogue_rows ts x query) (where_found (where_verdict (chars structured))))
+
+-- a call that didn't fail gave the rules of an index that hold of a document, in the order of their keys
+abbrev pub GivesHeld : RuleIndex → List ℕ → Vec RowKey Global → Type 0
+GivesHeld x text rows = map (λ (r : RowKey). r.0) rows.items ≡ rules_held x text
+
+-- a call that didn't fail gave what a rule index finds by a document
+abbrev pub FindsByDocument : Tables → RuleIndex → List ℕ → Result Found KeepFault → Type 0
+FindsByDocument ts x text result = IfOk result (GivesFound None (table_at ts x.table) (rule_rows x text) nothing_asked)
 
 -- a call that didn't fail gave what a search finds in its index
 abbrev pub FindsBySearch : Tables → Thesauri → Index → Search → Result Found KeepFault → Type 0

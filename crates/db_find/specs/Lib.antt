@@ -5,6 +5,7 @@ pub mod Querying
 pub mod Meanings
 pub mod Structured
 pub mod Catalogues
+pub mod Matching
 pub mod Finding
 pub mod Looking
 pub mod WordRows

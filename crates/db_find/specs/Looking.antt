@@ -13,6 +13,8 @@ use Rattle.ct_keep.specs.KeeperViews.{Counts, KeeperView}
 use Rattle.ct_keep.specs.Looks.{no_looks, LooksAtMost}
 use Rattle.tb_table.specs.declared.columns.Column.{Column}
 use Rattle.tb_table.specs.Tables.{Tables}
+use Rattle.tx_settings.specs.declared.preferences.Prefs.{Prefs}
+use Rattle.rule_index.specs.Matching.{rule_looks}
 use Rattle.ix_kinds.specs.Rows.{table_at}
 use Rattle.ix_kinds.specs.Indextypes.{IndexOf, with_body}
 use Rattle.q_tree.specs.declared.flats.Flat.{Flat}
@@ -22,16 +24,18 @@ use Rattle.cat_index.specs.declared.catalogues.Catalogue.{Catalogue}
 use Rattle.cat_index.specs.Catalogues.{CatalogueBody, docs_catalogue}
 use Rattle.cat_search.specs.Contents.{IsIndexOf}
 use Rattle.cat_search.specs.Looking.{ReadsTexts}
-use Rattle.ix_indexes.specs.Indexes.{Body, Index, as_catalogue, as_index}
+use Rattle.rule_index.specs.RuleIndexes.{RuleIndex}
+use Rattle.ix_indexes.specs.Indexes.{Body, Index, as_catalogue, as_index, as_rules}
 use Rattle.ix_context.specs.Indexes.{ContextIndex}
 use Rattle.ix_search.specs.Finding.{key_query, three_rows}
 use Rattle.ix_search.specs.Looking.{foxes, query_allowance, query_looks, query_of_fox}
 use Rattle.st_parse.specs.declared.statements.Whole.{Whole}
 use Rattle.st_parse.specs.declared.statements.Whole.TheVariants.{Fits}
-use Rattle.db_state.specs.States.{StoreState, StandsForState}
+use Rattle.db_state.specs.States.{StoreState, StandsForState, OverRules}
 use Rattle.db_find.specs.Querying.{Meaning, Finds, meaning_of}
-use Rattle.db_find.specs.Searches.{Search, Catsearch, Contains, threshold_of}
+use Rattle.db_find.specs.Searches.{Search, Catsearch, Contains, Matches, threshold_of}
 use Rattle.db_find.specs.Catalogues.{catalogue_texts, texts_meant}
+use Rattle.db_find.specs.Matching.{four_rules, rules_filed}
 use Rattle.db_find.specs.Finding.{Answers}
 
 -- what a query text means is looked for in the index of this name, with a score above a number; nothing without a query or a number
@@ -49,18 +53,34 @@ text_looks c thesauri i x query above = meaning_looks c i (meaning_of x.prefs th
 -- how many texts a CATSEARCH reads at most to find its rows, by what its index is
 abbrev pub texts_of_kind : Tables → Index → Body → List ℕ → List ℕ → ℕ
 texts_of_kind ts x (inl c) query structured = 0
-texts_of_kind ts x (inr b) query structured = catalogue_texts ts (with_body x b) query structured
+texts_of_kind ts x (inr (inl b)) query structured = catalogue_texts ts (with_body x b) query structured
+texts_of_kind ts x (inr (inr b)) query structured = 0
 
--- HOW MANY TEXTS A SEARCH READS at most to find its rows, in the index that it needs, with its name: none where there is none, and CONTAINS none
+-- how many rules a MATCHES reads at most, by what its index is
+abbrev pub rules_of_kind : Index → Body → List ℕ → ℕ
+rules_of_kind x (inl c) document = 0
+rules_of_kind x (inr (inl b)) document = 0
+rules_of_kind x (inr (inr b)) document = rules_filed (with_body x b) document
+
+-- HOW MANY TEXTS A SEARCH READS at most to find its rows, in the index that it needs, with its name: none where there is none, and CONTAINS and MATCHES none
 abbrev pub texts_in_index : Tables → Option (List ℕ × Index) → Search → ℕ
 texts_in_index ts named (Contains column query label above) = 0
 texts_in_index ts None (Catsearch column query structured) = 0
 texts_in_index ts (Some named) (Catsearch column query structured) = texts_of_kind ts named.1 named.1.body query structured
+texts_in_index ts named (Matches column document) = 0
+
+-- HOW MANY RULES A SEARCH READS at most, in the index that it needs, with its name; of CONTAINS and CATSEARCH nothing is said
+abbrev pub rules_in_index : Option (List ℕ × Index) → Search → Option ℕ
+rules_in_index named (Contains column query label above) = None
+rules_in_index named (Catsearch column query structured) = None
+rules_in_index None (Matches column document) = Some 0
+rules_in_index (Some named) (Matches column document) = Some (rules_of_kind named.1 named.1.body document)
 
 -- WHAT A SEARCH LOOKS AT in the index of this name, where these tables and thesauri are there
 abbrev pub search_looks : Content → Tables → Thesauri → List ℕ → Index → Search → Counts
 search_looks c ts thesauri i x (Contains column query label above) = text_looks c thesauri i x query above
 search_looks c ts thesauri i x (Catsearch column query structured) = record no_looks { texts = texts_of_kind ts x x.body query structured }
+search_looks c ts thesauri i x (Matches column document) = record no_looks { rules = rules_of_kind x x.body document }
 
 -- in the index that it needs, with its name; nothing where there is none
 abbrev pub looks_in : Content → Tables → Thesauri → Option (List ℕ × Index) → Search → Counts
@@ -78,6 +98,7 @@ LooksInContext view old new i query above =
 abbrev pub leaving_rules : Search → Counts → Counts → Counts
 leaving_rules (Contains column query label above) new most = most
 leaving_rules (Catsearch column query structured) new most = record most { rules = new.rules }
+leaving_rules (Matches column document) new most = most
 
 -- A CALL LOOKED AT NO MORE THAN A SEARCH DOES in the index of this name, where that answers it on a table with these columns.
 abbrev pub LooksInIndex : {K : Type 0} → (K → KeeperView) → K → K → List ℕ → List Column → Search → Type 0
@@ -109,6 +130,16 @@ ReadsMeant view old new flat ts x = ReadsTexts (texts_meant (table_at ts x.table
 abbrev pub ReadsByTexts : {K : Type 0} → (K → KeeperView) → K → K → List ℕ → List ℕ → Tables → IndexOf CatalogueBody → Type 0
 ReadsByTexts view old new query structured ts x = ReadsTexts (catalogue_texts ts x query structured) (view old).counts (view new).counts
 
+-- ---- of rule indexes
+
+-- This holds of the rule index of this name, where it reads texts by these preferences.
+abbrev pub OverRulesBy : {K : Type 0} → (K → KeeperView) → K → List ℕ → Prefs → (Tables → RuleIndex → Type 0) → Type 0
+OverRulesBy view old i p holds = OverRules view old i (λ m x. x.prefs ≡ p → holds m.tables x)
+
+-- no more rules were read than are filed for a document, and no text and no row of postings
+abbrev pub ReadsFiled : {K : Type 0} → (K → KeeperView) → K → K → List ℕ → RuleIndex → Type 0
+ReadsFiled view old new document x = LooksAtMost view old new (rule_looks (rules_filed x document))
+
 -- ---- by rows
 
 -- how many rows of postings and of sections a query text may look up by what it means, with a score above a number
@@ -120,6 +151,7 @@ meaning_allowance c i meaning threshold = 0
 abbrev pub search_allowance : Content → Thesauri → List ℕ → Index → Search → ℕ
 search_allowance c thesauri i x (Contains column query label above) = meaning_allowance c i (meaning_of x.prefs thesauri query) (threshold_of above)
 search_allowance c thesauri i x (Catsearch column query structured) = 0
+search_allowance c thesauri i x (Matches column document) = 0
 
 -- in the index that it needs, with its name; none where there is none
 abbrev pub allowance_in : Content → Thesauri → Option (List ℕ × Index) → Search → ℕ
@@ -134,6 +166,12 @@ of_no_query c = refl
 no_text_where_it_is_refused : (ts : Tables) → texts_in_index ts (Some (codes "ci", as_catalogue docs_catalogue)) (Catsearch (codes "body") [] []) ≡ 0
 unfolding encode chars caseless ucd_category key_text
 no_text_where_it_is_refused ts = refl
+
+no_rule_of_a_catalogue : rules_in_index (Some (codes "ci", as_catalogue docs_catalogue)) (Matches (codes "body") (codes "fox")) ≡ Some 0
+no_rule_of_a_catalogue = refl
+
+of_its_rules : rules_in_index (Some (codes "ri", as_rules four_rules)) (Matches (codes "q") (codes "fox")) ≡ Some (rules_filed four_rules (codes "fox"))
+of_its_rules = refl
 
 -- the query text `fox` means the key `fox`, which has three rows in the second content
 rows_of_a_word : (c : Content) (thesauri : Thesauri) → search_allowance c thesauri (codes "di") (as_index three_rows) (Contains (codes "body") (codes "fox") None (Fits (pos 0))) ≡ query_allowance c (codes "di") (key_query (codes "fox"))

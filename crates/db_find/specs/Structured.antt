@@ -23,7 +23,7 @@ use Rattle.db_cond.specs.Faults.{Refusal, InNoSubIndex, QueryNumber, QuerySyntax
 use Rattle.db_rows.specs.Checking.{cond_column, fits_cond}
 use Rattle.db_find.specs.declared.structured.Structured.{Structured}
 use Rattle.db_find.specs.declared.structured.Structured.TheVariants.{Refused, Asks}
-use Rattle.db_find.specs.Searches.{Search, Contains, search_structured}
+use Rattle.db_find.specs.Searches.{Search, Contains, Matches, search_structured}
 
 -- ---- what it asks for
 
@@ -36,7 +36,7 @@ where_found (Found w) = w
 where_found (OutOfRange place) = nothing_asked
 where_found (Syntax place) = nothing_asked
 
--- WHAT A SEARCH ASKS OF ROWS beside their text: the conditions and the order of its structured query. CONTAINS asks for nothing.
+-- WHAT A SEARCH ASKS OF ROWS beside their text: the conditions and the order of its structured query. CONTAINS and MATCHES ask for nothing.
 abbrev pub asked_where : Search → Where
 asked_where s = where_found (verdict (chars (search_structured s)))
 
@@ -89,6 +89,11 @@ MeansStructured (Asks asked) refusal w = (refusal ≡ None) × (asked ≡ w)
 pub contains_asks_nothing : (column query : List ℕ) (label : Option Whole) (above : Whole) → asked_where (Contains column query label above) ≡ nothing_asked
 unfolding chars
 contains_asks_nothing column query label above = refl
+
+-- Nor does MATCHES beside its document.
+pub matches_asks_nothing : (column document : List ℕ) → asked_where (Matches column document) ≡ nothing_asked
+unfolding chars
+matches_asks_nothing column document = refl
 
 -- ---- computed examples: sub-indexes by the price, and by the key and the price, of a table with the columns id, body and price
 

@@ -1,5 +1,6 @@
 pub mod Catalogues
 pub mod Filtering
 pub mod Looking
+pub mod Matching
 pub mod Seeking
 pub mod Thesauri

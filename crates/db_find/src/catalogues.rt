@@ -89,7 +89,7 @@ fn rows_found<K: Keeper>(
 }
 
 /// Rows with the score 0, for which no SCORE asks.
-fn unscored_hits(alloc: Global, rows: Vec<RowKey>) -> Result<Vec<Hit>, Memory>
+pub(crate) fn unscored_hits(alloc: Global, rows: Vec<RowKey>) -> Result<Vec<Hit>, Memory>
     ensures { IfOk result (λ hits. hit_rows hits.items ≡ map (λ r. unscored r.0) rows.items) }
 {
     let mut hits = Vec::new(alloc);

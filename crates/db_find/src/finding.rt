@@ -1,7 +1,7 @@
 //! What a search finds in its index.
 #![tactic(auto, using(ct_keep::specs::laws::Composing::reads_on, ct_keep::specs::laws::Composing::reads_short))]
 
-ghost use Rattle.std.specs.Prelude.{◌≡◌, nat_lt, filter};
+ghost use Rattle.std.specs.Prelude.{◌≡◌, false, nat_lt, filter};
 ghost use Rattle.ct_keep.specs.KeeperViews.{OnlyReads, Told};
 ghost use Rattle.ct_keep.specs.Looks.{LooksAtMost};
 ghost use Rattle.q_tree.specs.ReducedQueries.{reduced_of};
@@ -11,9 +11,10 @@ ghost use Rattle.db_find.specs.Finding.{Answers, FindsAbove, FindsBy, FindsByMea
 ghost use Rattle.db_find.specs.Looking.{LooksInContext, LooksInIndex, flat_looks};
 ghost use Rattle.db_find.specs.Meanings.{CanSearch, CanSearchIt};
 ghost use Rattle.db_find.specs.Querying.{meaning_of};
-ghost use Rattle.db_find.specs.Searches.{held_search, threshold_of as threshold_in};
+ghost use Rattle.db_find.specs.Searches.{has_long_document, held_search, threshold_of as threshold_in};
 
 use crate::catalogues::{find_in_catalogue, nothing_asked};
+use crate::matching::find_in_rules;
 use crate::querying::{Meaning, meaning_in};
 use crate::searches::{Search, threshold_of};
 use cat_where::Where;
@@ -83,8 +84,10 @@ fn found_hits<K: Keeper>(
     hits_above(alloc, keeper, index, flat, above)
 }
 
-/// What a CONTAINS finds in an index: the rows in which the score of a query text is above a number.
-fn find_in_context<K: Keeper>(
+/// What a CONTAINS finds in an index: the line of a refusal of its query text, or the rows in which the score of the text is above a
+/// number; where there is no CONTEXT index of the name, no rows. It costs the reading of the query text, of the index's preferences and of
+/// the thesauri that the text names, and then the search of the postings, and reads no text of a row.
+pub fn find_in_context<K: Keeper>(
     alloc: Global,
     keeper: &mut K,
     index: &Name,
@@ -113,7 +116,8 @@ fn find_in_context<K: Keeper>(
 /// Of a CONTAINS it costs the reading of the query text, of the index's preferences and of the thesauri that the text names, and then the
 /// search of the postings. It reads no text of a row. Of a CATSEARCH it costs the reading of both texts and of the catalogue's entry, and the walk through the
 /// entries of the sub-index that the conditions bound most, between these bounds; where the query has a phrase of several words, it reads the text of each row at
-/// which the walk stops, and else none.
+/// which the walk stops, and else none. Of a MATCHES, whose document has at most 4000 bytes, it costs the reading of the document and of the index's preferences,
+/// and the scoring of each rule that is filed under a key of the document or everywhere.
 pub fn find<K: Keeper>(
     alloc: Global,
     keeper: &mut K,
@@ -121,7 +125,8 @@ pub fn find<K: Keeper>(
     columns: &[Column],
     search: Search<'_>,
 ) -> Result<Found, KeepFault>
-    requires { (K.view keeper.old).ready }
+    requires ready { (K.view keeper.old).ready }
+    requires short { has_long_document (held_search search) ≡ false }
     ensures found { OverIndex K.view keeper.old index.now (λ m x. Answers m.tables x columns.now (held_search search.entry) → FindsBySearch m.tables m.thesauri x (held_search search.entry) result) }
     ensures reads { OnlyReads K.view keeper.old keeper.new result }
     ensures at_most { LooksInIndex K.view keeper.old keeper.new index.now columns.now (held_search search.entry) }
@@ -144,5 +149,6 @@ pub fn find<K: Keeper>(
                 search.structured(),
             )
         }
+        Search::Matches { document, .. } => find_in_rules(alloc, keeper, index, document),
     }
 }

@@ -1,18 +1,19 @@
 //! What text predicates ask.
 #![tactic(auto)]
 
-ghost use Rattle.std.specs.Prelude.{◌≡◌};
+ghost use Rattle.std.specs.Prelude.{◌≡◌, length, nat_lt};
 ghost use Rattle.std.specs.Option.{option_map};
-ghost use Rattle.db_find.specs.Searches.{has_number_out_of_range as search_out_of_range, held_search, is_beyond_label, search_above, search_column, search_in as first_search, search_kind, search_label, search_of as search_of_pred, search_query, search_structured, text_or_empty as text_or_nothing, threshold_of};
+ghost use Rattle.ct_base.specs.Limits.{text_limit};
+ghost use Rattle.db_find.specs.Searches.{has_long_document as is_document_long, has_number_out_of_range as search_out_of_range, held_search, is_beyond_label, search_above, search_column, search_in as first_search, search_kind, search_label, search_of as search_of_pred, search_query, search_structured, text_or_empty as text_or_nothing, threshold_of};
 
-use ct_base::{Name, Text};
+use ct_base::{Name, TEXT_LIMIT, Text};
 use db_names::IndexKind;
 use st_parse::{Pred, Whole};
 
 /// The highest score.
 const HIGHEST: i64 = 100;
 
-/// What a text predicate asks, by its kind. MATCHES will be a kind of its own.
+/// What a text predicate asks, by its kind.
 #[derive(Clone, Copy)]
 pub enum Search<'a> {
     /// The score of the query text in the column is above a number. SCORE with the label is that score.
@@ -28,6 +29,11 @@ pub enum Search<'a> {
         query: &'a str,
         structured: &'a str,
     },
+    /// The rule in the column holds of the document: its query has a score above 0 on it.
+    Matches {
+        column: &'a Name,
+        document: &'a str,
+    },
 }
 
 impl<'a> Search<'a> {
@@ -38,6 +44,7 @@ impl<'a> Search<'a> {
         match self {
             Search::Contains { column, .. } => column,
             Search::Catsearch { column, .. } => column,
+            Search::Matches { column, .. } => column,
         }
     }
 
@@ -48,6 +55,7 @@ impl<'a> Search<'a> {
         match self {
             Search::Contains { .. } => IndexKind::Context,
             Search::Catsearch { .. } => IndexKind::Catalogue,
+            Search::Matches { .. } => IndexKind::Rules,
         }
     }
 
@@ -57,36 +65,37 @@ impl<'a> Search<'a> {
     {
         match self {
             Search::Contains { label, .. } => label,
-            Search::Catsearch { .. } => None,
+            Search::Catsearch { .. } | Search::Matches { .. } => None,
         }
     }
 
-    /// Its query text.
+    /// Its query text. Of MATCHES that is its document.
     pub(crate) fn query(self) -> &'a str
         ensures { result.now ≡ search_query (held_search self.entry) }
     {
         match self {
             Search::Contains { query, .. } => query,
             Search::Catsearch { query, .. } => query,
+            Search::Matches { document, .. } => document,
         }
     }
 
-    /// The number that the score is above. Of CATSEARCH that is 0.
+    /// The number that the score is above. Of CATSEARCH and MATCHES that is 0.
     pub(crate) fn above(self) -> Whole
         ensures { result ≡ search_above (held_search self.entry) }
     {
         match self {
             Search::Contains { above, .. } => above,
-            Search::Catsearch { .. } => Whole::Fits(0),
+            Search::Catsearch { .. } | Search::Matches { .. } => Whole::Fits(0),
         }
     }
 
-    /// Its structured query. Of CONTAINS that is the empty text.
+    /// Its structured query. Of CONTAINS and MATCHES that is the empty text.
     pub(crate) fn structured(self) -> &'a str
         ensures { result.now ≡ search_structured (held_search self.entry) }
     {
         match self {
-            Search::Contains { .. } => "",
+            Search::Contains { .. } | Search::Matches { .. } => "",
             Search::Catsearch { structured, .. } => structured,
         }
     }
@@ -99,9 +108,26 @@ impl<'a> Search<'a> {
             Search::Contains { label, above, .. } => {
                 is_beyond_label(label) || threshold_of(above).is_none()
             }
-            Search::Catsearch { .. } => false,
+            Search::Catsearch { .. } | Search::Matches { .. } => false,
         }
     }
+
+    /// Whether its document has over 4000 bytes. Only MATCHES has one.
+    pub fn has_long_document(self) -> bool
+        ensures { result ≡ is_document_long (held_search self.entry) }
+    {
+        match self {
+            Search::Contains { .. } | Search::Catsearch { .. } => false,
+            Search::Matches { document, .. } => is_long(document),
+        }
+    }
+}
+
+/// Whether a document has over 4000 bytes.
+fn is_long(document: &str) -> bool
+    ensures { result ≡ nat_lt text_limit (length document.now) }
+{
+    document.len() > usize::from(TEXT_LIMIT)
 }
 
 /// Whether the label is a number outside 64 bits.
@@ -140,7 +166,7 @@ fn text_or_empty(text: &Option<Text>) -> &str
     }
 }
 
-/// What a predicate asks, if it is a text predicate of a kind that is built.
+/// What a predicate asks, if it is a text predicate.
 fn search_of<'a>(pred: &'a Pred) -> Option<Search<'a>>
     ensures { option_map held_search result ≡ search_of_pred pred.now }
 {
@@ -165,11 +191,15 @@ fn search_of<'a>(pred: &'a Pred) -> Option<Search<'a>>
             query: query.as_str(),
             structured: text_or_empty(structured),
         }),
-        Pred::Cond(_) | Pred::Matches { .. } => None,
+        Pred::Matches { column, document } => Some(Search::Matches {
+            column,
+            document: document.as_str(),
+        }),
+        Pred::Cond(_) => None,
     }
 }
 
-/// What the first text predicate among predicates asks, of the kinds that are built. The grammar lets there be at most one.
+/// What the first text predicate among predicates asks. The grammar lets there be at most one.
 pub fn search_in<'a>(preds: &'a [Pred]) -> Option<Search<'a>>
     ensures { option_map held_search result ≡ first_search preds.now }
 {

@@ -1,7 +1,7 @@
 //! The index that a search needs.
 #![tactic(auto, using(ct_keep::specs::laws::Composing::reads_on, ct_keep::specs::laws::Composing::reads_short))]
 
-ghost use Rattle.std.specs.Prelude.{◌≡◌, ◌≤◌, [], ◌∷◌, length, IfOk, Some};
+ghost use Rattle.std.specs.Prelude.{◌≤◌, [], ◌∷◌, length, IfOk, Some};
 ghost use Rattle.ct_keep.specs.KeeperViews.{OnlyReads, Told};
 ghost use Rattle.ct_keep.specs.Looks.{LooksAtMost, scan_looks};
 ghost use Rattle.ct_entry.specs.declared.kinds.Kind.TheVariants as entry;

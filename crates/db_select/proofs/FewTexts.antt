@@ -1,21 +1,17 @@
 -- A CATSEARCH reads no more texts than rows have a word of its query, times one more than the columns of texts that are named.
-use Rattle.std.proofs.Common.{ℕ, ℤ, ◌≡◌, ◌≤◌, ◌+◌, ◌*◌, List, length, Option, Some, None, refl, ap, sym, subst, ◌∙◌, arith}
-use Rattle.std.specs.FinMap.{get}
+use Rattle.std.proofs.Common.{ℕ, ◌≡◌, ◌≤◌, ◌+◌, ◌*◌, List, length, Option, Some, sym, subst, arith}
 use Rattle.std.proofs.Math.Nat.{mul-le-mul_right}
 use Rattle.ct_keep.specs.Content.{Content}
 use Rattle.st_parse.specs.declared.statements.Cond.{Cond}
-use Rattle.st_parse.specs.declared.statements.Pred.{Pred}
 use Rattle.tb_table.specs.Tables.{Table}
-use Rattle.ix_kinds.specs.Indextypes.{IndexOf}
 use Rattle.ix_indexes.specs.Indexes.{Index, as_catalogue}
-use Rattle.cat_index.specs.Catalogues.{CatalogueBody}
 use Rattle.db_state.specs.Effects.{Effect, Does, Refused}
-use Rattle.db_state.specs.States.{StoreState, StandsForState}
+use Rattle.db_state.specs.States.{StoreState}
 use Rattle.db_find.specs.WordRows.{CataloguesFindWordRows, slot_rows_of}
 use Rattle.db_find.specs.Finding.{found_in}
 use Rattle.db_find.specs.Looking.{texts_in_index}
 use Rattle.db_find.specs.Searches.{Search, Catsearch}
-use Rattle.db_find.specs.Seeking.{index_of_search, named_index}
+use Rattle.db_find.specs.Seeking.{named_index}
 use Rattle.db_find.specs.laws.Seeking.{named_needs}
 use Rattle.db_select.specs.Hits.{found_rows}
 use Rattle.db_select.specs.Looking.{allowance_by, row_texts, searching_allowance, select_texts}

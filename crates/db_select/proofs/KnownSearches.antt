@@ -1,6 +1,5 @@
 -- What a SELECT with a search does where its index is there, and its values and numbers pass.
-use Rattle.std.proofs.Common.{◌≡◌, ◌≤◌, ◌*◌, Bool, List, [], ◌∷◌, ℕ, ℤ, length, Option, Some, None, Vec, sym, ap, subst, ◌∙◌}
-use Rattle.std.specs.Prelude.{◌||◌}
+use Rattle.std.proofs.Common.{◌≡◌, ◌≤◌, ◌*◌, List, [], ◌∷◌, ℕ, ℤ, length, Option, Some, None, Vec, sym, ap, subst, ◌∙◌}
 use Rattle.std.specs.FinMap.{get}
 use Rattle.std.specs.declared.alloc.Global.{Global}
 use Rattle.ct_keep.specs.Content.{Content}
@@ -14,7 +13,6 @@ use Rattle.ix_indexes.specs.Indexes.{AreIndexes, Index}
 use Rattle.ix_search.specs.declared.hits.Hit.{Hit}
 use Rattle.ix_search.specs.Hits.{hit_rows}
 use Rattle.st_parse.specs.declared.statements.Cond.{Cond}
-use Rattle.st_parse.specs.declared.statements.Whole.{Whole}
 use Rattle.tb_table.specs.declared.columns.Column.{Column}
 use Rattle.tb_table.specs.Rules.{AreTables}
 use Rattle.tb_table.specs.Tables.{Table}
@@ -22,7 +20,6 @@ use Rattle.cat_where.specs.declared.stages.Where.{Where}
 use Rattle.db_cond.specs.Faults.{Refusal}
 use Rattle.db_state.specs.Effects.{Does, Effect, refuse_by}
 use Rattle.db_state.specs.States.{StoreState}
-use Rattle.db_rows.specs.Checking.{has_beyond}
 use Rattle.db_rows.specs.Texts.{RisesLeaving, texts_alone}
 use Rattle.db_find.specs.declared.finding.Found.{Found}
 use Rattle.db_find.specs.declared.finding.Found.TheVariants.{Refused, Rows as FoundRows}
@@ -34,11 +31,10 @@ use Rattle.db_find.specs.Structured.{asked_where}
 use Rattle.db_find.specs.laws.Seeking.{needed_answers, needed_is_on, needed_named}
 use Rattle.db_select.specs.declared.finds.FoundRow.{FoundRow}
 use Rattle.db_select.specs.declared.finds.Selected.TheVariants.{Refused as RefusedFound, Rows}
-use Rattle.db_select.specs.Checking.{check_parts, has_wrong_values, is_out_of_range}
+use Rattle.db_select.specs.Checking.{check_values}
 use Rattle.db_select.specs.Hits.{GivesAsked, all_conds, found_rows, hits}
 use Rattle.db_select.specs.Listing.{rows_reply}
 use Rattle.db_select.specs.Looking.{read_texts}
-use Rattle.db_select.specs.Predicates.{label_in}
 use Rattle.db_select.specs.Selecting.{Selects, select_rows}
 use Rattle.db_select.specs.Choosing.{Selection, asked_by}
 use Rattle.db_select.proofs.AskedLaws.{searched_are}
@@ -56,12 +52,10 @@ pub record IsKnownSearch (m : StoreState) (t : List ℕ) (x : Table) (want : Sel
   pub effect : select_rows m t x want (Some s) conds ≡ refuse_by (search_refusal m.tables m.thesauri index s) (λ refusal. refusal) (Does m (rows_reply m.tables t x.columns want.list (hits m t x want (Some s) conds)))
 
 module _ (m : StoreState) (t : List ℕ) (x : Table) (want : Selection) (s : Search) (conds : List Cond) (columns : List Column) (same : x.columns ≡ columns) where
-  -- the index that was found, and the answers of the checks
-  pub known_search : (i : List ℕ) (found : Option (List ℕ)) (w o : Bool) (label : Option Whole) → AreTables m.tables → AreIndexes m.tables m.indexes → get m.tables t ≡ Some x
-      → (length columns ≤ 256 → NeedsIndex m t columns s found) → found ≡ Some i
-      → w ≡ has_wrong_values columns want label conds → label ≡ label_in (Some s) → o ≡ (is_out_of_range (Some s) || has_beyond conds)
-      → ((done : Effect) → check_parts w o done ≡ done) → IsKnownSearch m t x want s conds i
-  known_search i found w o label tables indexes there needs found_is wrong label_is out passes =
+  -- the index that was found, and that the checks find nothing wrong
+  pub known_search : (i : List ℕ) (found : Option (List ℕ)) → AreTables m.tables → AreIndexes m.tables m.indexes → get m.tables t ≡ Some x
+      → (length columns ≤ 256 → NeedsIndex m t columns s found) → found ≡ Some i → ((done : Effect) → check_values columns want (Some s) conds done ≡ done) → IsKnownSearch m t x want s conds i
+  known_search i found tables indexes there needs found_is passes =
       let needed : NeedsIndex m t x.columns s (Some i) =
       subst (λ (cs : List Column). NeedsIndex m t cs s (Some i)) (sym same) (subst (NeedsIndex m t columns s) found_is (needs (few_columns m t x columns tables there same))) in
       record {
@@ -72,7 +66,7 @@ module _ (m : StoreState) (t : List ℕ) (x : Table) (want : Selection) (s : Sea
         answers = needed_answers m t x s i there needed;
         named = needed_named m t x.columns s i indexes needed;
         effect =
-            by_query m t x want (Some s) conds columns same w o (wrong ∙ ap (λ (l : Option Whole). has_wrong_values columns want l conds) label_is) out (has_needed m t x s needed.0 needed.1.1) passes
+            by_query m t x want (Some s) conds columns same (has_needed m t x s needed.0 needed.1.1) passes
             (search_refusal m.tables m.thesauri needed.0 s) (by_index m t x s needed.0 needed.1.1);
       }
 

@@ -13,4 +13,4 @@ pub mod PredicateLaws
 pub mod SearchLooks
 pub mod SelectLaws
 pub mod ShownLaws
-pub mod WaitSteps
+pub mod ViewSteps

@@ -1,5 +1,6 @@
 -- What a SELECT with a search looks up.
-use Rattle.std.proofs.Common.{◌≡◌, ◌≤◌, ◌+◌, ◌*◌, ℕ, false, List, [], ◌∷◌, length, Option, Some, None, refl, sym, ap, subst, ◌∙◌, add-zero, arith}
+use Rattle.std.proofs.Common.{◌≡◌, ◌≤◌, ◌+◌, ◌*◌, ℕ, Bool, true, false, List, [], ◌∷◌, length, Option, Some, None, refl, sym, ap, subst, ◌∙◌, add-zero, arith}
+use Rattle.std.specs.Prelude.{◌&&◌}
 use Rattle.std.specs.FinMap.{get}
 use Rattle.std.proofs.lemmas.List.{length-map}
 use Rattle.std.proofs.Math.Nat.{mul-le-mul_right}
@@ -10,7 +11,6 @@ use Rattle.ct_entry.specs.declared.kinds.Kind.TheVariants as kind
 use Rattle.ct_entry.specs.Kinds.{code}
 use Rattle.st_parse.specs.declared.statements.Cond.{Cond}
 use Rattle.st_parse.specs.declared.statements.Pred.{Pred}
-use Rattle.st_parse.specs.declared.statements.OrderItem.{OrderItem}
 use Rattle.tb_table.specs.declared.columns.Column.{Column}
 use Rattle.tb_table.specs.Tables.{Table}
 use Rattle.ix_search.specs.declared.hits.Hit.{Hit}
@@ -26,15 +26,15 @@ use Rattle.db_find.specs.Finding.{search_refusal}
 use Rattle.cat_where.specs.declared.stages.Where.{Where}
 use Rattle.db_find.specs.Looking.{leaving_rules, looks_in, search_looks, texts_in_index}
 use Rattle.db_find.specs.declared.searches.Search.{Search as Held}
-use Rattle.db_find.specs.Searches.{Search, Catsearch, Contains, held_search, search_in, sought}
+use Rattle.db_find.specs.Searches.{Search, Catsearch, Contains, Matches, held_search, search_in, sought}
 use Rattle.db_find.specs.Seeking.{named_index}
 use Rattle.db_find.specs.Structured.{asked_where}
 use Rattle.db_find.specs.laws.Looking.{in_texts, indexes_texts, refused_looks, rises_as, rises_behind, rises_weaker}
 use Rattle.db_select.specs.Hits.{all_conds, found_rows}
 use Rattle.db_select.specs.Looking.{LooksFew, LooksFewLeaving, found_looks, index_looks, looks_by, read_texts, row_texts, table_looks}
-use Rattle.db_select.specs.Pending.{is_bare}
 use Rattle.db_select.specs.Predicates.{conds_in}
 use Rattle.db_select.specs.Selecting.{select_rows}
+use Rattle.db_select.specs.Views.{is_view_list, is_whole}
 use Rattle.db_select.specs.laws.Allowing.{leaving_rows, leaving_texts}
 use Rattle.db_select.specs.Choosing.{Selection, asked_by}
 
@@ -43,11 +43,13 @@ use Rattle.db_select.specs.Choosing.{Selection, asked_by}
 -- the same bound, and so many texts of it left
 leaving_left : (s : Search) (most : Counts) (left : ℕ) (old new : Counts) → RisesLeaving most left old new → RisesLeaving (leaving_rules s new most) left old new
 leaving_left (Contains column query label above) most left old new rises = rises
+leaving_left (Matches column document) most left old new rises = rises
 leaving_left (Catsearch column query structured) most left old new rises = record { texts = rises.texts; rows = rises.rows; rules = omega arith }
 
 -- these are read behind it
 leaving_on : (s : Search) (most : Counts) (left : ℕ) (a b d : Counts) → RisesLeaving (leaving_rules s b most) left a b → RisesBy (texts_alone left) b d → RisesLeaving (leaving_rules s d most) 0 a d
 leaving_on (Contains column query label above) most left a b d first second = rises_on most left left 0 a b d (sym (add-zero left)) first second
+leaving_on (Matches column document) most left a b d first second = rises_on most left left 0 a b d (sym (add-zero left)) first second
 leaving_on (Catsearch column query structured) most left a b d first second =
     let texts : d.texts ≤ b.texts + left = second.texts in
     record { texts = omega (arith, first.texts, texts); rows = omega (arith, first.rows, second.rows); rules = omega arith }
@@ -56,6 +58,9 @@ leaving_on (Catsearch column query structured) most left a b d first second =
 leaving_whole : (s : Search) (most looks : Counts) (n left : ℕ) (a b d e : Counts) → e.texts + left ≤ a.texts + most.texts → e.rows ≤ a.rows + most.rows → b.rules ≤ a.rules + n
     → RisesBy (leaving_rules s d looks) b d → e.rules ≤ d.rules → n + looks.rules ≤ most.rules → RisesLeaving (leaving_rules s e most) left a e
 leaving_whole (Contains column query label above) most looks n left a b d e texts rows first second third both =
+    let search : d.rules ≤ b.rules + looks.rules = second.rules in
+    record { texts = texts; rows = rows; rules = omega (arith, first, search, third, both) }
+leaving_whole (Matches column document) most looks n left a b d e texts rows first second third both =
     let search : d.rules ≤ b.rules + looks.rules = second.rules in
     record { texts = texts; rows = rows; rules = omega (arith, first, search, third, both) }
 leaving_whole (Catsearch column query structured) most looks n left a b d e texts rows first second third both = record { texts = texts; rows = rows; rules = omega arith }
@@ -158,16 +163,21 @@ still_few effect c m want t preds None a b none = tt
 still_few effect c m want t preds (Some s) a b none = rises_weaker _ a b none
 
 -- where something is searched for, there is a predicate
-searches : (preds : List Pred) (orders : List OrderItem) (s : Search) → search_in preds ≡ Some s → is_bare preds orders ≡ false
-searches [] orders s is = absurd (cc)
-searches (pred ∷ preds) orders s is = refl
+not_bare : (b : Bool) → (b && false) ≡ false
+not_bare true = refl
+not_bare false = refl
 
-pub bare_few : (effect : Effect) (c : Content) (m : StoreState) (want : Selection) (t : List ℕ) (preds : List Pred) (a b : Counts) → (is_bare preds want.orders ≡ false → RisesBy no_looks a b) → LooksFew effect c m want t preds (search_in preds) a b
-bare_few effect c m want t preds a b none = go (search_in preds) refl
+searches : (want : Selection) (preds : List Pred) (s : Search) → search_in preds ≡ Some s → is_whole want preds ≡ false
+searches want [] s is = absurd (cc)
+searches want (pred ∷ preds) s is = not_bare (is_view_list want.list)
+
+-- a view is asked for all its lines or their number, or nothing was looked up
+pub view_few : (effect : Effect) (c : Content) (m : StoreState) (want : Selection) (t : List ℕ) (preds : List Pred) (a b : Counts) → (is_whole want preds ≡ false → RisesBy no_looks a b) → LooksFew effect c m want t preds (search_in preds) a b
+view_few effect c m want t preds a b none = go (search_in preds) refl
   where
     go : (search : Option Search) → search_in preds ≡ search → LooksFew effect c m want t preds search a b
     go None is = tt
-    go (Some s) is = rises_weaker _ a b (none (searches preds want.orders s is))
+    go (Some s) is = rises_weaker _ a b (none (searches want preds s is))
 
 -- as of the table
 pub table_few : (effect : Effect) (c : Content) (m : StoreState) (want : Selection) (t : List ℕ) (preds : List Pred) (x : Table) (search : Option Search) (conds : List Cond) (a b d : Counts)

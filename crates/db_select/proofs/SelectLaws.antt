@@ -1,6 +1,6 @@
 -- The ways out of a SELECT, and its lines.
 use Rattle.std.proofs.Common.{◌≡◌, ◌≤◌, ℕ, Bool, true, false, List, [], ◌∷◌, length, map, Option, Some, None, Vec, refl, sym, ap, ◌∙◌, arith}
-use Rattle.std.specs.Prelude.{◌||◌, is_none}
+use Rattle.std.specs.Prelude.{is_none}
 use Rattle.std.specs.FinMap.{get}
 use Rattle.std.specs.declared.alloc.Global.{Global}
 use Rattle.st_parse.specs.declared.statements.Item.{Item}
@@ -17,7 +17,6 @@ use Rattle.db_cond.specs.Faults.{Refusal, UnknownName, NoIndexOfKind, refusal_li
 use Rattle.db_state.specs.States.{StoreState}
 use Rattle.db_state.specs.Effects.{Effect, Does, Refused, refuse, refuse_by, with_found, reply_by}
 use Rattle.db_state.specs.Columns.{first_unknown}
-use Rattle.db_rows.specs.Checking.{has_beyond}
 use Rattle.db_select.specs.declared.finds.FoundRow.{FoundRow}
 use Rattle.db_select.specs.declared.finds.Selected.{Selected}
 use Rattle.db_select.specs.declared.finds.Selected.TheVariants.{Refused as RefusedFound, Rows}
@@ -25,8 +24,8 @@ use Rattle.db_find.specs.Searches.{Search, search_in}
 use Rattle.db_find.specs.Seeking.{index_of_search}
 use Rattle.db_find.specs.Finding.{refused_by, search_refusal}
 use Rattle.db_select.specs.declared.sources.FieldSource.{FieldSource}
-use Rattle.db_select.specs.Predicates.{conds_in, label_in, named_columns}
-use Rattle.db_select.specs.Checking.{check_parts, check_values, has_wrong_values, is_out_of_range}
+use Rattle.db_select.specs.Predicates.{conds_in, named_columns}
+use Rattle.db_select.specs.Checking.{check_values}
 use Rattle.db_select.specs.Fields.{hit_fields}
 use Rattle.db_select.specs.Hits.{hits, hits_of}
 use Rattle.db_select.specs.Listing.{all_columns, found_reply, hit_line, rows_reply}
@@ -65,12 +64,7 @@ columns_are columns sources x same is =
 
 -- ---- the replies
 
-module _ (m : StoreState) (t : List ℕ) (x : Table) (want : Selection) (search : Option Search) (conds : List Cond) (columns : List Column) (same : x.columns ≡ columns) (w o : Bool)
-    (wrong : w ≡ has_wrong_values columns want (label_in search) conds) (out : o ≡ (is_out_of_range search || has_beyond conds)) where
-  checked : (done : Effect) → check_values x.columns want search conds done ≡ check_parts w o done
-  checked done =
-      sym (λ i. check_parts ((wrong ∙ ap (λ (cs : List Column). has_wrong_values cs want (label_in search) conds) (sym same)) i) (out i) done)
-
+module _ (m : StoreState) (t : List ℕ) (x : Table) (want : Selection) (search : Option Search) (conds : List Cond) (columns : List Column) (same : x.columns ≡ columns) where
   -- what follows the checks
   abbrev pub listed : Effect
   listed = Does m (rows_reply m.tables t x.columns want.list (hits m t x want search conds))
@@ -78,19 +72,19 @@ module _ (m : StoreState) (t : List ℕ) (x : Table) (want : Selection) (search 
   abbrev queried : Effect
   queried = refuse_by (query_refusal m t x.columns search) (λ refusal. refusal) listed
 
-  behind_index : lacks_index m t x.columns search ≡ false → select_rows m t x want search conds ≡ check_parts w o queried
-  behind_index there = ap (λ (b : Bool). refuse b NoIndexOfKind (check_values x.columns want search conds queried)) there ∙ checked queried
+  behind_index : lacks_index m t x.columns search ≡ false → select_rows m t x want search conds ≡ check_values columns want search conds queried
+  behind_index there = ap (λ (b : Bool). refuse b NoIndexOfKind (check_values x.columns want search conds queried)) there ∙ λ i. check_values (same i) want search conds queried
 
-  pub faulty : lacks_index m t x.columns search ≡ false → (refusal : Refusal) → ((done : Effect) → check_parts w o done ≡ Refused refusal) → (line : Vec ℕ Global) → line.items ≡ refusal_line refusal
+  pub faulty : lacks_index m t x.columns search ≡ false → (refusal : Refusal) → ((done : Effect) → check_values columns want search conds done ≡ Refused refusal) → (line : Vec ℕ Global) → line.items ≡ refusal_line refusal
       → Selects m t x want search conds (RefusedFound line)
   faulty there refusal fails line says = (refusal, (behind_index there ∙ fails queried, says))
 
   -- behind the checks, where the query text is refused or isn't
-  pub by_query : lacks_index m t x.columns search ≡ false → ((done : Effect) → check_parts w o done ≡ done) → (refused : Option Refusal) → query_refusal m t x.columns search ≡ refused
+  pub by_query : lacks_index m t x.columns search ≡ false → ((done : Effect) → check_values columns want search conds done ≡ done) → (refused : Option Refusal) → query_refusal m t x.columns search ≡ refused
       → select_rows m t x want search conds ≡ refuse_by refused (λ refusal. refusal) listed
   by_query there passes refused is = behind_index there ∙ passes queried ∙ ap (λ (o : Option Refusal). refuse_by o (λ refusal. refusal) listed) is
 
-  pub passed : lacks_index m t x.columns search ≡ false → ((done : Effect) → check_parts w o done ≡ done) → query_refusal m t x.columns search ≡ None → (found : Vec FoundRow Global) → hit_rows (hits_of found.items) ≡ hits m t x want search conds
+  pub passed : lacks_index m t x.columns search ≡ false → ((done : Effect) → check_values columns want search conds done ≡ done) → query_refusal m t x.columns search ≡ None → (found : Vec FoundRow Global) → hit_rows (hits_of found.items) ≡ hits m t x want search conds
       → Selects m t x want search conds (Rows found)
   passed there passes none found are = (by_query there passes None none, are)
 

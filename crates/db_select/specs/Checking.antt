@@ -1,5 +1,5 @@
 -- The checks of a SELECT, behind those of its names and its index.
-use Rattle.std.specs.Prelude.{ℕ, ℤ, pos, Bool, true, false, not, ◌||◌, ◌&&◌, List, [], ◌∷◌, Option, Some, None, codes, ◌≡◌, refl}
+use Rattle.std.specs.Prelude.{ℕ, ℤ, pos, replicate, Bool, true, false, not, ◌||◌, ◌&&◌, List, [], ◌∷◌, Option, Some, None, codes, ◌≡◌, refl}
 use Rattle.std.specs.List.{list_all}
 use Rattle.std.specs.Ordering.{int_eq}
 use Rattle.st_parse.specs.declared.statements.Cond.{Cond}
@@ -15,10 +15,10 @@ use Rattle.st_parse.specs.declared.statements.Whole.{Whole}
 use Rattle.st_parse.specs.declared.statements.Whole.TheVariants.{Fits, Beyond}
 use Rattle.tb_table.specs.declared.columns.Column.{Column}
 use Rattle.tb_table.specs.Tables.{docs_columns}
-use Rattle.db_cond.specs.Faults.{WrongValues, OutOfRange}
+use Rattle.db_cond.specs.Faults.{WrongValues, ValueTooLong, OutOfRange}
 use Rattle.db_state.specs.Effects.{Effect, Refused, refuse}
 use Rattle.db_rows.specs.Checking.{fit_columns, fit_sort, has_beyond, sort_of}
-use Rattle.db_find.specs.Searches.{Search, Contains, has_number_out_of_range}
+use Rattle.db_find.specs.Searches.{Search, Contains, Matches, has_long_document, has_number_out_of_range}
 use Rattle.db_select.specs.Ordering.{down_by}
 use Rattle.db_select.specs.Predicates.{label_in, below_seven}
 use Rattle.db_select.specs.Choosing.{Selection, selection}
@@ -68,11 +68,16 @@ abbrev pub is_out_of_range : Option Search → Bool
 is_out_of_range None = false
 is_out_of_range (Some s) = has_number_out_of_range s
 
+-- the document of a MATCHES is over its length
+abbrev pub is_too_long : Option Search → Bool
+is_too_long None = false
+is_too_long (Some s) = has_long_document s
+
 -- ---- the checks in their order
 
--- wrong values, and a number out of its range
-abbrev pub check_parts : Bool → Bool → Effect → Effect
-check_parts wrong_values out_of_range done = refuse wrong_values WrongValues (refuse out_of_range OutOfRange done)
+-- wrong values, a document that is too long, and a number out of its range
+abbrev pub check_parts : Bool → Bool → Bool → Effect → Effect
+check_parts wrong_values too_long out_of_range done = refuse wrong_values WrongValues (refuse too_long ValueTooLong (refuse out_of_range OutOfRange done))
 
 abbrev pub has_wrong_values : List Column → Selection → Option Whole → List Cond → Bool
 has_wrong_values columns want label conds = (not (fit_labels want.list label) || not (fit_orders columns label want.orders)) || not (fit_columns columns conds)
@@ -81,6 +86,7 @@ abbrev pub check_values : List Column → Selection → Option Search → List C
 check_values columns want search conds done =
     check_parts
     (has_wrong_values columns want (label_in search) conds)
+    (is_too_long search)
     (is_out_of_range search || has_beyond conds)
     done
 
@@ -118,6 +124,19 @@ threshold_alone done = refl
 -- a number outside 64 bits in a condition
 condition_beyond : (done : Effect) → check_values docs_columns (selection Star []) (its_search (codes "a b") None (pos 0)) (price_is_beyond ∷ []) done ≡ Refused OutOfRange
 condition_beyond done = refl
+
+-- MATCHES of 4001 bytes: beside SCORE(1), which it hasn't, and beside a number outside 64 bits in a condition
+abbrev too_long : Option Search
+too_long = Some (Matches (codes "q") (replicate 4001 120))
+
+no_score_of_a_document : (done : Effect) → check_values docs_columns score_one too_long [] done ≡ Refused WrongValues
+no_score_of_a_document done = refl
+
+long_document : (done : Effect) → check_values docs_columns (selection Star []) too_long (price_is_beyond ∷ []) done ≡ Refused ValueTooLong
+long_document done = refl
+
+a_document : (done : Effect) → check_values docs_columns (selection Star []) (Some (Matches (codes "q") (replicate 4000 120))) [] done ≡ done
+a_document done = refl
 
 label_beyond : (done : Effect) → check_values docs_columns (selection (Items (Score Beyond ∷ [])) []) (its_search (codes "quick") (Some Beyond) (pos 0)) [] done ≡ Refused OutOfRange
 label_beyond done = refl

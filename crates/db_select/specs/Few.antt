@@ -1,5 +1,5 @@
 -- What a SELECT with a CATSEARCH reads, by the rows that have a word which its query takes.
-use Rattle.std.specs.Prelude.{ℕ, ◌+◌, ◌*◌, ◌≡◌, ◌≤◌, List, [], ◌∷◌, Some, codes, refl}
+use Rattle.std.specs.Prelude.{ℕ, ◌+◌, ◌*◌, ◌≡◌, ◌≤◌, List, [], Some, codes, refl}
 use Rattle.std.specs.Str.{chars}
 use Rattle.std.specs.FinMap.{get}
 use Rattle.ct_keep.specs.Content.{Content}

@@ -8,10 +8,10 @@ pub mod Ranking
 pub mod Listing
 pub mod Looking
 pub mod Few
-pub mod Pending
 pub mod Predicates
 pub mod Selecting
 pub mod Sources
 pub mod Statements
-pub mod Waiting
+pub mod Views
+pub mod ViewRows
 pub mod laws

@@ -1,6 +1,7 @@
 -- How much a SELECT with a search looks up, and how much it may.
 use Rattle.std.specs.Prelude.{ℕ, pos, ◌+◌, ◌*◌, ◌≡◌, ◌||◌, Bool, true, false, List, [], ◌∷◌, length, ◌≤◌, Option, Some, None, Result, Vec, codes, refl}
 use Rattle.std.specs.List.{list_any}
+use Rattle.std.specs.Option.{option_map}
 use Rattle.std.specs.FinMap.{get}
 use Rattle.std.specs.Str.{chars}
 use Rattle.std.specs.declared.alloc.Global.{Global}
@@ -32,13 +33,14 @@ use Rattle.db_state.specs.Effects.{Effect, Does, Refused}
 use Rattle.db_rows.specs.Checking.{cond_columns}
 use Rattle.db_rows.specs.Sources.{of_columns}
 use Rattle.db_rows.specs.Texts.{RisesLeaving, is_named, left_by, passing_text_places, texts_alone}
-use Rattle.ix_indexes.specs.Indexes.{Index, as_index}
+use Rattle.ix_indexes.specs.Indexes.{Index, as_index, as_rules}
 use Rattle.ix_search.specs.declared.hits.Hit.{Hit}
 use Rattle.ix_search.specs.Finding.{three_rows}
 use Rattle.cat_where.specs.declared.stages.Where.{Where}
 use Rattle.ix_search.specs.Looking.{foxes}
-use Rattle.db_find.specs.Looking.{allowance_in, four_rows_of_fox, leaving_rules, looks_in, texts_in_index}
-use Rattle.db_find.specs.Searches.{Search, Contains, search_in}
+use Rattle.db_find.specs.Looking.{allowance_in, four_rows_of_fox, leaving_rules, looks_in, rules_in_index, texts_in_index}
+use Rattle.db_find.specs.Matching.{four_rules, one_is_looked_at}
+use Rattle.db_find.specs.Searches.{Search, Contains, Matches, search_in}
 use Rattle.db_find.specs.Seeking.{named_index}
 use Rattle.db_find.specs.Structured.{asked_where}
 use Rattle.db_select.specs.Hits.{all_conds, found_rows, rows_left}
@@ -152,22 +154,26 @@ SelectsFew view old new effect want t preds = OverStates view old (λ m c. Looks
 
 -- ---- what it may look up, by rows
 
--- where it is refused: no text, and 1 row, which may stand behind the entries of the indexes
-abbrev pub refused_allowance : Allowance
-refused_allowance = record { texts = Some 0; rows = Some 1; rules = None }
+-- how many rules, where a number is said: of MATCHES 1 more than so many, which may stand behind the entries of the indexes
+abbrev pub one_rule_more : Option ℕ → Option ℕ
+one_rule_more rules = option_map (λ (n : ℕ). 1 + n) rules
 
--- where it isn't: so many texts, and 1 row of postings more than the search may look up in its index
+-- where it is refused: no text, and 1 row, which may stand behind the entries of the indexes, or of MATCHES 1 rule
+abbrev pub refused_allowance : Search → Allowance
+refused_allowance s = record { texts = Some 0; rows = Some 1; rules = one_rule_more (rules_in_index None s) }
+
+-- where it isn't: so many texts, 1 row of postings more than the search may look up in its index, and of MATCHES 1 rule more than it reads there
 abbrev pub found_allowance : Content → StoreState → List ℕ → Table → Selection → Search → List Cond → Allowance
 found_allowance c m t x want s conds = record {
   texts = Some (select_texts m t x want s conds);
   rows = Some (1 + allowance_in c m.thesauri (named_index m t x.columns s) s);
-  rules = None;
+  rules = one_rule_more (rules_in_index (named_index m t x.columns s) s);
 }
 
 -- by its effect, which tells whether it is refused, and by the table, if it is there
 abbrev pub allowance_by : Content → StoreState → Selection → List ℕ → List Cond → Search → Effect → Option Table → Allowance
-allowance_by c m want t conds s (Refused refusal) found = refused_allowance
-allowance_by c m want t conds s (Does next reply) None = refused_allowance
+allowance_by c m want t conds s (Refused refusal) found = refused_allowance s
+allowance_by c m want t conds s (Does next reply) None = refused_allowance s
 allowance_by c m want t conds s (Does next reply) (Some x) = found_allowance c m t x want s conds
 
 -- of one without a search nothing is said
@@ -237,3 +243,14 @@ two_texts c m x columns found = λ i. Some (texts_in_index m.tables (named_index
 five_rows : (m : StoreState) (x : Table) → named_index m (codes "docs") x.columns a_fox ≡ Some (codes "di", as_index three_rows)
     → (found_allowance foxes m (codes "docs") x (selection Star []) a_fox []).rows ≡ Some 5
 five_rows m x index = ap (λ (o : Option (List ℕ × Index)). Some (1 + allowance_in foxes m.thesauri o a_fox)) index ∙ ap (λ (n : ℕ). Some (1 + n)) (four_rows_of_fox m.thesauri)
+
+-- MATCHES(q, 'b c') > 0: one of the four rules is filed under `b`
+abbrev b_and_c : Search
+b_and_c = Matches (codes "q") (codes "b c")
+
+no_rule_where_it_is_refused : refused_allowance b_and_c ≡ record { texts = Some 0; rows = Some 1; rules = Some 1 }
+no_rule_where_it_is_refused = refl
+
+two_rules : (c : Content) (m : StoreState) (x : Table) → named_index m (codes "rules") x.columns b_and_c ≡ Some (codes "ri", as_rules four_rules)
+    → (found_allowance c m (codes "rules") x (selection Star []) b_and_c []).rules ≡ Some 2
+two_rules c m x index = ap (λ (o : Option (List ℕ × Index)). one_rule_more (rules_in_index o b_and_c)) index ∙ ap (λ (n : ℕ). Some (1 + n)) one_is_looked_at

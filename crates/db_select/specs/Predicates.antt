@@ -1,6 +1,6 @@
 -- What a SELECT names, and its conditions: the parts of its list and of its predicates.
-use Rattle.std.specs.Prelude.{ℕ, pos, ◌≡◌, Bool, true, false, List, [], ◌∷◌, ◌++◌, map, Option, Some, None, codes, refl}
-use Rattle.std.specs.List.{list_all, flat_map}
+use Rattle.std.specs.Prelude.{ℕ, pos, ◌≡◌, List, [], ◌∷◌, ◌++◌, map, Option, Some, None, codes, refl}
+use Rattle.std.specs.List.{flat_map}
 use Rattle.st_parse.specs.declared.statements.Operand.TheVariants.{Number}
 use Rattle.st_parse.specs.declared.statements.Compare.TheVariants.{Less}
 use Rattle.st_parse.specs.declared.statements.Cond.{Cond}
@@ -33,13 +33,6 @@ list_columns CountAll = []
 list_columns (Items items) = columns_among items
 
 -- ---- the predicates
-
--- MATCHES isn't built yet
-abbrev pub is_built_pred : Pred → Bool
-is_built_pred (CondPred cond) = true
-is_built_pred (Contains column query label above) = true
-is_built_pred (Catsearch column query structured) = true
-is_built_pred (Matches column document) = false
 
 -- the column that the predicate is on
 abbrev pub pred_column : Pred → List ℕ
@@ -90,8 +83,8 @@ its_columns = refl
 its_conditions : conds_in fox_and_two ≡ below_seven (codes "id") ∷ below_seven (codes "price") ∷ []
 its_conditions = refl
 
-not_built : list_all is_built_pred (CondPred (below_seven (codes "id")) ∷ Matches (codes "body") (codes "a fox") ∷ []) ≡ false
-not_built = refl
+no_condition : conds_in (Matches (codes "q") (codes "a fox") ∷ []) ≡ []
+no_condition = refl
 
 no_column_of_all : list_columns Star ≡ []
 no_column_of_all = refl

@@ -1,34 +1,39 @@
 -- What a statement SELECT does, whatever it selects from.
-use Rattle.std.specs.Prelude.{ℕ, ◌≡◌, not, List, [], ◌∷◌, codes, bytes_eq, refl}
-use Rattle.std.specs.Bool.{if◌then◌else◌}
-use Rattle.std.specs.List.{list_all}
+use Rattle.std.specs.Prelude.{ℕ, ◌≡◌, Bool, true, not, ◌&&◌, is_some, List, [], ◌∷◌, Option, Some, None, codes, refl}
 use Rattle.st_parse.specs.declared.statements.Pred.{Pred}
 use Rattle.st_parse.specs.declared.statements.Pred.TheVariants.{Matches}
-use Rattle.st_parse.specs.declared.statements.SelectList.TheVariants.{Star, CountAll}
-use Rattle.db_cond.specs.Faults.{NotUnderstood}
-use Rattle.db_state.specs.States.{StoreState, is_view}
-use Rattle.db_state.specs.Effects.{Effect, Refused, refuse}
-use Rattle.db_select.specs.Pending.{select_pending}
-use Rattle.db_select.specs.Predicates.{is_built_pred}
+use Rattle.st_parse.specs.declared.statements.SelectList.TheVariants.{Star, CountAll, Items}
+use Rattle.db_cond.specs.Faults.{WrongValues}
+use Rattle.db_state.specs.States.{StoreState}
+use Rattle.db_state.specs.Effects.{Effect, Refused}
+use Rattle.db_select.specs.declared.views.View.{View}
+use Rattle.db_select.specs.declared.views.View.TheVariants.{Waiting, Errors}
 use Rattle.db_select.specs.Selecting.{select}
+use Rattle.db_select.specs.Views.{is_whole, select_view, view_named}
 use Rattle.db_select.specs.Choosing.{Selection, selection}
 
--- Of what is only looked at, by its name: the rows that wait. CTX_USER_INDEX_ERRORS isn't built yet.
-abbrev pub select_from : StoreState → Selection → List ℕ → List Pred → Effect
-select_from m want t preds =
-    if bytes_eq t (codes "ctx_user_pending") then select_pending m want preds
-    else refuse (is_view t) NotUnderstood (select m want t preds)
+-- of what is only looked at, or of a table
+abbrev pub select_from : Option View → StoreState → Selection → List ℕ → List Pred → Effect
+select_from (Some view) m want t preds = select_view m view want preds
+select_from None m want t preds = select m want t preds
 
--- MATCHES isn't built yet, which comes before all else.
+-- WHAT A SELECT DOES
 abbrev pub select_statement : StoreState → Selection → List ℕ → List Pred → Effect
-select_statement m want t preds = refuse (not (list_all is_built_pred preds)) NotUnderstood (select_from m want t preds)
+select_statement m want t preds = select_from (view_named t) m want t preds
+
+-- a view is asked for anything but all its lines or their number, which is refused whatever the state
+abbrev pub is_wrong_view : Selection → List ℕ → List Pred → Bool
+is_wrong_view want t preds = is_some (view_named t) && not (is_whole want preds)
 
 -- computed examples
-not_built : (m : StoreState) → select_statement m (selection Star []) (codes "docs") (Matches (codes "body") (codes "a fox") ∷ []) ≡ Refused NotUnderstood
-not_built m = refl
-
-what_waits : (m : StoreState) → select_statement m (selection CountAll []) (codes "ctx_user_pending") [] ≡ select_pending m (selection CountAll []) []
+what_waits : (m : StoreState) → select_statement m (selection CountAll []) (codes "ctx_user_pending") [] ≡ select_view m Waiting (selection CountAll []) []
 what_waits m = refl
 
-no_errors_yet : (m : StoreState) → select_statement m (selection Star []) (codes "ctx_user_index_errors") [] ≡ Refused NotUnderstood
-no_errors_yet m = refl
+all_errors : (m : StoreState) → select_statement m (selection Star []) (codes "ctx_user_index_errors") [] ≡ select_view m Errors (selection Star []) []
+all_errors m = refl
+
+no_predicate_on_a_view : (m : StoreState) → select_statement m (selection Star []) (codes "ctx_user_index_errors") (Matches (codes "q") (codes "a fox") ∷ []) ≡ Refused WrongValues
+no_predicate_on_a_view m = refl
+
+a_list_of_a_view : is_wrong_view (selection (Items []) []) (codes "ctx_user_pending") [] ≡ true
+a_list_of_a_view = refl

@@ -1,15 +1,17 @@
 //! The checks of a SELECT, behind those of its names and its index.
 #![tactic(auto)]
 
-ghost use Rattle.std.specs.Prelude.{◌≡◌, []};
+ghost use Rattle.std.specs.Prelude.{◌≡◌, ◌||◌, [], None, Some, false};
 ghost use Rattle.std.specs.List.{list_all};
 ghost use Rattle.db_state.specs.Effects.{Effect, Checks};
-ghost use Rattle.db_rows.specs.Checking.{fit_sort};
-ghost use Rattle.db_select.specs.Checking.{check_parts, fit_labels as labels_fit, fit_orders as orders_fit, fits_order as order_fits, has_wrong_values as any_wrong, is_labelled, is_sortable as item_sorts, same_label};
+ghost use Rattle.db_rows.specs.Checking.{fit_sort, has_beyond as any_beyond};
+ghost use Rattle.db_find.specs.Searches.{has_long_document as is_document_long, held_search};
+ghost use Rattle.db_select.specs.Checking.{check_parts, check_values, fit_labels as labels_fit, fit_orders as orders_fit, fits_order as order_fits, has_wrong_values as any_wrong, is_labelled, is_out_of_range as out_of_range, is_sortable as item_sorts, same_label};
 ghost use Rattle.db_select.specs.Choosing.{selection};
 
 use db_cond::Fault;
-use db_rows::{fit_columns, sort_of};
+use db_find::Search;
+use db_rows::{fit_columns, has_beyond, sort_of};
 use st_parse::{Cond, Item, OrderItem, SelectList, Whole};
 use tb_table::{Column, Sort};
 
@@ -89,7 +91,7 @@ fn fit_orders(orders: &[OrderItem], label: Option<Whole>, columns: &[Column]) ->
 }
 
 /// Whether a score of the list hasn't this label, rows can't be ordered as the SELECT asks, or a condition doesn't fit its column.
-pub(crate) fn has_wrong_values(
+fn has_wrong_values(
     list: &SelectList,
     orders: &[OrderItem],
     label: Option<Whole>,
@@ -101,15 +103,57 @@ pub(crate) fn has_wrong_values(
     !fit_labels(list, label) || !fit_orders(orders, label, columns) || !fit_columns(conds, columns)
 }
 
-/// The first of two faults that is there.
-pub(crate) fn first_fault(wrong_values: bool, out_of_range: bool) -> Option<Fault<'static>>
-    ensures { (done : Effect) → Checks result (check_parts wrong_values out_of_range done) done }
+/// Whether a number of a search or a condition is out of its range.
+fn has_bad_number(search: Search<'_>, conds: &[Cond]) -> bool
+    ensures { result ≡ (out_of_range (Some (held_search search.entry)) || any_beyond conds.now) }
+{
+    search.has_number_out_of_range() || has_beyond(conds)
+}
+
+/// The first of three faults that is there.
+fn first_fault(wrong_values: bool, too_long: bool, out_of_range: bool) -> Option<Fault<'static>>
+    ensures fault { (done : Effect) → Checks result (check_parts wrong_values too_long out_of_range done) done }
+    ensures short { result ≡ None → too_long ≡ false }
 {
     if wrong_values {
         return Some(Fault::WrongValues);
+    }
+    if too_long {
+        return Some(Fault::ValueTooLong);
     }
     if out_of_range {
         return Some(Fault::OutOfRange);
     }
     None
+}
+
+/// What is wrong with the values and numbers of a SELECT with a search, if anything is. Its document isn't too long where nothing is.
+pub(crate) fn search_fault(
+    list: &SelectList,
+    orders: &[OrderItem],
+    search: Search<'_>,
+    conds: &[Cond],
+    columns: &[Column],
+) -> Option<Fault<'static>>
+    ensures fault { (done : Effect) → Checks result (check_values columns.now (selection list.now orders.now) (Some (held_search search.entry)) conds.now done) done }
+    ensures short { result ≡ None → is_document_long (held_search search.entry) ≡ false }
+{
+    let wrong_values = has_wrong_values(list, orders, search.label(), conds, columns);
+    let too_long = search.has_long_document();
+    let out_of_range = has_bad_number(search, conds);
+    first_fault(wrong_values, too_long, out_of_range)
+}
+
+/// The same of one without a search.
+pub(crate) fn plain_fault(
+    list: &SelectList,
+    orders: &[OrderItem],
+    conds: &[Cond],
+    columns: &[Column],
+) -> Option<Fault<'static>>
+    ensures { (done : Effect) → Checks result (check_values columns.now (selection list.now orders.now) None conds.now done) done }
+{
+    let wrong_values = has_wrong_values(list, orders, None, conds, columns);
+    let out_of_range = has_beyond(conds);
+    first_fault(wrong_values, false, out_of_range)
 }

@@ -11,13 +11,13 @@ mod laws;
 mod listing;
 mod names;
 mod ordering;
-mod pending;
 mod predicates;
 mod selecting;
 mod showing;
 mod sources;
 mod statements;
-mod waiting;
+mod view_rows;
+mod views;
 
 pub use laws::{catsearch_reads_few, looking_law};
 pub use statements::select;

@@ -2,10 +2,9 @@
 #![tactic(auto)]
 
 ghost use Rattle.std.specs.Prelude.{◌≡◌, ◌++◌, ◌∷◌, [], map, IfOk, OnOk};
-ghost use Rattle.std.specs.List.{list_all};
 ghost use Rattle.std.specs.Option.{option_map};
 ghost use Rattle.db_state.specs.Columns.{first_unknown};
-ghost use Rattle.db_select.specs.Predicates.{columns_among, cond_in, conds_in as all_conds, is_built_pred, list_columns, named_columns, order_columns, pred_column as column_of_pred};
+ghost use Rattle.db_select.specs.Predicates.{columns_among, cond_in, conds_in as all_conds, list_columns, named_columns, order_columns, pred_column as column_of_pred};
 ghost use Rattle.db_select.specs.Choosing.{selection};
 
 use crate::copying::copy_cond;
@@ -15,22 +14,6 @@ use db_state::has_column;
 use st_parse::{Cond, Item, OrderItem, Pred, SelectList};
 use std::alloc::Global;
 use tb_table::Column;
-
-fn is_built(pred: &Pred) -> bool
-    ensures { result ≡ is_built_pred pred.now }
-{
-    match pred {
-        Pred::Cond(_) | Pred::Contains { .. } | Pred::Catsearch { .. } => true,
-        Pred::Matches { .. } => false,
-    }
-}
-
-/// Whether each predicate is built: MATCHES isn't yet.
-pub(crate) fn are_built(preds: &[Pred]) -> bool
-    ensures { result ≡ list_all is_built_pred preds.now }
-{
-    preds.iter().all(|pred| is_built(pred))
-}
 
 /// The column that a predicate is on.
 fn pred_column(pred: &Pred) -> &Name

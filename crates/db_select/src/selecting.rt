@@ -1,13 +1,11 @@
 //! SELECT of a table.
 #![tactic(auto, using(ct_keep::specs::laws::Composing::reads_on, ct_keep::specs::laws::Composing::reads_short))]
 
-ghost use Rattle.std.specs.Prelude.{◌≡◌, ◌||◌, ◌++◌, IfOk, Some, None};
+ghost use Rattle.std.specs.Prelude.{◌≡◌, ◌++◌, IfOk, Some, None};
 ghost use Rattle.ct_keep.specs.KeeperViews.{OnlyReads};
 ghost use Rattle.db_state.specs.States.{Sees};
 ghost use Rattle.db_state.specs.Effects.{reply_by};
-ghost use Rattle.db_rows.specs.Checking.{has_beyond as any_beyond};
 ghost use Rattle.db_find.specs.Searches.{held_search, sought};
-ghost use Rattle.db_select.specs.Checking.{is_out_of_range as out_of_range};
 ghost use Rattle.db_select.specs.Giving.{GivesLines, GivesOver, GivesScores};
 ghost use Rattle.db_select.specs.Hits.{GivesAsked, HoldOwn, unsearched_rows};
 ghost use Rattle.db_select.specs.Looking.{FindsFew, LooksFewOver, ReadsRows, SelectsFew};
@@ -15,7 +13,7 @@ ghost use Rattle.db_select.specs.Ordering.{in_order};
 ghost use Rattle.db_select.specs.Selecting.{SelectedOwn, Selects, rows_reply_by, select as select_effect};
 ghost use Rattle.db_select.specs.Choosing.{asked_by, selection};
 
-use crate::checking::{first_fault, has_wrong_values};
+use crate::checking::{plain_fault, search_fault};
 use crate::choosing::chosen_order;
 use crate::copying::copy_cond;
 use crate::finds::{FoundRow, Selected};
@@ -29,7 +27,6 @@ use ct_base::{Memory, Name};
 use ct_keep::{KeepFault, Keeper};
 use db_cond::{Fault, fault_line};
 use db_find::{Found, Search, find, needed_index, search_in};
-use db_rows::has_beyond;
 use db_state::table_columns;
 use ix_search::{Hit, looking_law};
 use st_parse::{Cond, Conds, OrderItem, Pred, SelectList};
@@ -71,21 +68,12 @@ fn met_rows<K: Keeper>(
     ensures own { Sees K.view keeper.old result (λ m found. SelectedOwn m.tables table.now found) }
     ensures reads { OnlyReads K.view keeper.old keeper.new result }
 {
-    let wrong_values = has_wrong_values(list, orders, None, conds, columns);
-    let out_of_range = has_beyond(conds);
-    if let Some(fault) = first_fault(wrong_values, out_of_range) {
+    if let Some(fault) = plain_fault(list, orders, conds, columns) {
         return Ok(Selected::Refused(fault_line(alloc, fault)?));
     }
     let order = chosen_order(alloc, list, orders, &[])?;
     let rows = walked_rows(alloc, keeper, list, table, columns, order.as_slice(), conds)?;
     Ok(Selected::Rows(rows))
-}
-
-/// Whether a number of a search or a condition is out of its range.
-fn has_bad_number(search: Search<'_>, conds: &[Cond]) -> bool
-    ensures { result ≡ (out_of_range (Some (held_search search.entry)) || any_beyond conds.now) }
-{
-    search.has_number_out_of_range() || has_beyond(conds)
 }
 
 /// Conditions, and behind them others.
@@ -154,9 +142,7 @@ fn searched_rows<K: Keeper>(
     let Some(index) = needed_index(alloc, keeper, table, columns, search)? else {
         return Ok(Selected::Refused(fault_line(alloc, Fault::NoIndexOfKind)?));
     };
-    let wrong_values = has_wrong_values(list, orders, search.label(), conds, columns);
-    let out_of_range = has_bad_number(search, conds);
-    if let Some(fault) = first_fault(wrong_values, out_of_range) {
+    if let Some(fault) = search_fault(list, orders, search, conds, columns) {
         return Ok(Selected::Refused(fault_line(alloc, fault)?));
     }
     let found = find(alloc, keeper, &index, columns, search)?;

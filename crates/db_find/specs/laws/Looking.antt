@@ -1,5 +1,6 @@
 -- A search looks at no more rows than it may and at as many texts as it says, and at nothing where it is refused.
 use Rattle.std.proofs.Common.{◌≡◌, ◌≤◌, ℕ, List, [], ◌∷◌, Option, Some, None, refl, sym, ap, subst, inl, inr, ◌∙◌, arith}
+use Rattle.std.proofs.lemmas.Option.{same_Some}
 use Rattle.ct_keep.specs.Content.{Content}
 use Rattle.ct_keep.specs.KeeperViews.{Counts}
 use Rattle.ct_keep.specs.Looks.{no_looks, one_if, scan_looks, RisesBy}
@@ -14,9 +15,9 @@ use Rattle.ix_indexes.specs.Indexes.{Body, Index}
 use Rattle.db_cond.specs.Faults.{Refusal}
 use Rattle.db_find.specs.Catalogues.{texts_meant, unless_refused, catsearch_meaning}
 use Rattle.db_find.specs.Finding.{refusal_of_kind, search_refusal}
-use Rattle.db_find.specs.Looking.{allowance_in, looks_in, meaning_allowance, meaning_looks, search_allowance, search_looks, texts_in_index, texts_of_kind}
+use Rattle.db_find.specs.Looking.{allowance_in, looks_in, meaning_allowance, meaning_looks, rules_in_index, search_allowance, search_looks, texts_in_index, texts_of_kind}
 use Rattle.db_find.specs.Querying.{Finds, Meaning, Refuses, meaning_of, refusal_in}
-use Rattle.db_find.specs.Searches.{Search, Catsearch, Contains, threshold_of}
+use Rattle.db_find.specs.Searches.{Search, Catsearch, Contains, Matches, threshold_of}
 
 -- ---- calls that look at nothing
 
@@ -60,14 +61,17 @@ module _ (few : QueriesLookFew) (m : Content) where
   looks_texts : (ts : Tables) (thesauri : Thesauri) (named : List ℕ × Index) (s : Search) → (search_looks m ts thesauri named.0 named.1 s).texts ≡ texts_in_index ts (Some named) s
   looks_texts ts thesauri named (Contains column query label above) = meaning_texts named.0 (meaning_of named.1.prefs thesauri query) (threshold_of above)
   looks_texts ts thesauri named (Catsearch column query structured) = refl
+  looks_texts ts thesauri named (Matches column document) = refl
 
   looks_rows : (ts : Tables) (thesauri : Thesauri) (i : List ℕ) (x : Index) (s : Search) → (search_looks m ts thesauri i x s).rows ≤ search_allowance m thesauri i x s
   looks_rows ts thesauri i x (Contains column query label above) = meaning_rows i (meaning_of x.prefs thesauri query) (threshold_of above)
   looks_rows ts thesauri i x (Catsearch column query structured) = omega arith
+  looks_rows ts thesauri i x (Matches column document) = omega arith
 
   no_index_no_texts : (ts : Tables) (s : Search) → 0 ≡ texts_in_index ts None s
   no_index_no_texts ts (Contains column query label above) = refl
   no_index_no_texts ts (Catsearch column query structured) = refl
+  no_index_no_texts ts (Matches column document) = refl
 
   -- A SEARCH LOOKS AT SO MANY TEXTS, and at no more rows than it may.
   pub in_texts : (ts : Tables) (thesauri : Thesauri) (named : Option (List ℕ × Index)) (s : Search) → (looks_in m ts thesauri named s).texts ≡ texts_in_index ts named s
@@ -77,6 +81,13 @@ module _ (few : QueriesLookFew) (m : Content) where
   pub in_rows : (ts : Tables) (thesauri : Thesauri) (named : Option (List ℕ × Index)) (s : Search) → (looks_in m ts thesauri named s).rows ≤ allowance_in m thesauri named s
   in_rows ts thesauri None s = omega arith
   in_rows ts thesauri (Some named) s = looks_rows ts thesauri named.0 named.1 s
+
+-- how many rules a search reads at most, where that is said
+pub in_rules : (m : Content) (ts : Tables) (thesauri : Thesauri) (named : Option (List ℕ × Index)) (s : Search) (n : ℕ) → rules_in_index named s ≡ Some n → (looks_in m ts thesauri named s).rules ≡ n
+in_rules m ts thesauri named (Contains column query label above) n is = absurd (cc)
+in_rules m ts thesauri named (Catsearch column query structured) n is = absurd (cc)
+in_rules m ts thesauri None (Matches column document) n is = same_Some _ _ is
+in_rules m ts thesauri (Some named) (Matches column document) n is = same_Some _ _ is
 
 -- ---- nothing where it is refused
 
@@ -88,8 +99,10 @@ refused_meaning m i (Finds q) threshold refusal is = absurd (cc)
 refused_texts : (ts : Tables) (thesauri : Thesauri) (x : Index) (body : Body) (column query structured : List ℕ) (refusal : Refusal)
     → refusal_of_kind ts thesauri x body (Catsearch column query structured) ≡ Some refusal → texts_of_kind ts x body query structured ≡ 0
 refused_texts ts thesauri x (inl c) column query structured refusal is = refl
-refused_texts ts thesauri x (inr b) column query structured refusal is = ap (λ (o : Option Refusal). unless_refused o (texts_meant (table_at ts x.table) (with_body x b) (catsearch_meaning x.prefs query))) is
+refused_texts ts thesauri x (inr (inr b)) column query structured refusal is = refl
+refused_texts ts thesauri x (inr (inl b)) column query structured refusal is = ap (λ (o : Option Refusal). unless_refused o (texts_meant (table_at ts x.table) (with_body x b) (catsearch_meaning x.prefs query))) is
 
 pub refused_looks : (m : Content) (ts : Tables) (thesauri : Thesauri) (i : List ℕ) (x : Index) (s : Search) (refusal : Refusal) → search_refusal ts thesauri x s ≡ Some refusal → search_looks m ts thesauri i x s ≡ no_looks
 refused_looks m ts thesauri i x (Contains column query label above) refusal is = refused_meaning m i (meaning_of x.prefs thesauri query) (threshold_of above) refusal is
 refused_looks m ts thesauri i x (Catsearch column query structured) refusal is = ap (λ (n : ℕ). record no_looks { texts = n }) (refused_texts ts thesauri x x.body column query structured refusal is)
+refused_looks m ts thesauri i x (Matches column document) refusal is = absurd (cc)

@@ -10,7 +10,7 @@ use Rattle.db_select.proofs.selecting.met_rows.Goals as goal
 
 pub returns-in-Some-clause-rows : goal.returns-in-Some-clause-rows
 returns-in-Some-clause-rows g c = λ m k x holds stands there same.
-    faulty m c.args.table.now x (selection c.args.list.now c.args.orders.now) None c.args.conds.now c.args.columns.now same _ _ c.has_wrong_values-wrong_values.ensures c.has_beyond-out_of_range.ensures refl
+    faulty m c.args.table.now x (selection c.args.list.now c.args.orders.now) None c.args.conds.now c.args.columns.now same refl
     (refusal_of c.in-Some.fault) c.in-Some.ensures c.in_ok-fault_line.field-0 c.in_ok-fault_line.ensures
 
 pub returns-clause-rows : goal.returns-clause-rows
@@ -19,7 +19,7 @@ returns-clause-rows g c = λ m k x holds stands there same.
     let conds : List Cond = c.args.conds.now in
     let order : c.as_slice.result.now ≡ chosen_order c.args.list.now c.args.orders.now [] =
     c.as_slice.ensures ∙ c.in_ok-order.ensures in
-    passed m t x (selection c.args.list.now c.args.orders.now) None conds c.args.columns.now same _ _ c.has_wrong_values-wrong_values.ensures c.has_beyond-out_of_range.ensures refl
+    passed m t x (selection c.args.list.now c.args.orders.now) None conds c.args.columns.now same refl
     c.in_default.ensures refl c.in_ok-rows.rows
     (c.in_ok-rows.ensures.rows m k x holds stands there same ∙ ap (λ (os : List OrderItem). in_order x os (unsearched_rows m t x conds)) order)
 
