@@ -54,7 +54,7 @@ use Rattle.ix_context.specs.laws.Gathered.{gathered_postings}
 use Rattle.ix_context.specs.Postings.{fox_and_quick}
 use Rattle.ix_context.specs.Spelling.{index_bytes}
 use Rattle.ix_kinds.specs.Indextypes.{IndexOf}
-use Rattle.ix_indexes.specs.Indexes.{Index, as_index, kinds, pending_rows}
+use Rattle.ix_indexes.specs.Indexes.{Index, Defined, as_index, kinds, pending_rows}
 use Rattle.ix_indexes.specs.Noting.{InContext, Noted, noted_at, noted_named}
 use Rattle.ct_entry.specs.Each.{each}
 use Rattle.st_parse.specs.declared.statements.Arg.TheVariants.{Text as TextArg}
@@ -69,7 +69,7 @@ use Rattle.db_state.specs.Effects.{Effect, Does, refuse, with_found, state_by}
 use Rattle.db_state.specs.Lines.{call_done}
 use Rattle.tx_prefs.specs.Preferences.{no_preferences}
 use Rattle.th_store.specs.Thesauri.{no_thesauri}
-use Rattle.db_state.specs.States.{StoreState, StandsForState, empty_state, is_view, index_limit}
+use Rattle.db_state.specs.States.{StoreState, StandsForState, empty_state, is_view, index_limit, named_thesauri}
 use Rattle.db_state.specs.Room.{room, its_room}
 use Rattle.db_state.specs.laws.EachValue.{entries-each_value, entries-from_rising}
 use Rattle.db_state.specs.laws.Empty.{empty_stands}
@@ -152,6 +152,10 @@ state_with rows given marks = record { tables = tables_with rows; indexes = inde
 abbrev without_index : StoreState
 without_index = record { tables = tables_with []; indexes = empty; preferences = no_preferences; thesauri = no_thesauri }
 
+-- there is no thesaurus in any of them
+abbrev its_thesauri : Defined
+its_thesauri = named_thesauri empty_state
+
 table_there : (rows : List (ℤ × List Value)) → get (tables_with rows) docs ≡ Some (table_with rows)
 table_there rows = get-from_sorted (slice_cmp nat_cmp) ((docs, table_with rows) ∷ []) docs tt
 
@@ -222,9 +226,9 @@ settling_context rows = as_context (part_with_marks (length rows) no_part) (sett
 abbrev settling : List ℤ → Index
 settling rows = as_index (settling_context rows)
 
-indexes_created : with_index kinds (inl all_rows) tt (tables_with []) di (target docs 1) default_prefs empty ≡ indexes_with 0 []
+indexes_created : with_index kinds (inl all_rows) its_thesauri (tables_with []) di (target docs 1) default_prefs empty ≡ indexes_with 0 []
 indexes_created =
-    insert_is (slice_cmp nat_cmp) nat_list_cmp_total empty di (new_index kinds (inl all_rows) tt (tables_with []) (target docs 1) default_prefs) [] (nothing (slice_cmp nat_cmp) nat_list_cmp_total) tt
+    insert_is (slice_cmp nat_cmp) nat_list_cmp_total empty di (new_index kinds (inl all_rows) its_thesauri (tables_with []) (target docs 1) default_prefs) [] (nothing (slice_cmp nat_cmp) nat_list_cmp_total) tt
     ∙ ap (λ (rows : List ℤ). indexes_of (settling rows)) no_row_yet
     ∙ ap (λ (marks : Rows Its). indexes_of (index_of 0 marks)) (no_rows Its)
 
@@ -245,7 +249,7 @@ no_postings =
     ∙ ap (λ (es : List (List ℕ × Growing)). each (its_rows kind.Postings) es ++ row_map_changes kind.Spans di empty) (nothing (slice_cmp nat_cmp) nat_list_cmp_total)
     ∙ ap (λ (es : List (List ℕ × Growing)). each (its_rows kind.Spans) es) (nothing (slice_cmp nat_cmp) nat_list_cmp_total)
 
-second_are : kinds.create_changes (inl all_rows) tt (table_at (tables_with []) docs) di (target docs 1) default_prefs ≡ second_changes
+second_are : kinds.create_changes (inl all_rows) its_thesauri (table_at (tables_with []) docs) di (target docs 1) default_prefs ≡ second_changes
 second_are =
     ap (λ (rows : List ℤ). put_value (key kind.Indexes di []) (context_entry (settling_context rows)) ∷ (mark_each_changes di 1 rows ++ postings_changes di (postings_by default_prefs texts_then) 1 rows)) no_row_yet
     ∙ ap (λ (ws : List KeyChange). put_value (key kind.Indexes di []) (context_entry (settling_context [])) ∷ ws) no_postings
@@ -259,7 +263,7 @@ the_defaults_are = record { lexer = refl; can_be = defaults_can_be_set; stop = r
 second_stands : StandsForState second (state_with [] 0 [])
 second_stands =
     subst (λ (ws : List KeyChange). StandsForState (after (spell ws) first) (state_with [] 0 [])) second_are
-    (subst (λ (xs : Names Index). StandsForState (after (spell (kinds.create_changes (inl all_rows) tt (table_at (tables_with []) docs) di (target docs 1) default_prefs)) first) (record { tables = tables_with []; indexes = xs; preferences = no_preferences; thesauri = no_thesauri })) indexes_created
+    (subst (λ (xs : Names Index). StandsForState (after (spell (kinds.create_changes (inl all_rows) its_thesauri (table_at (tables_with []) docs) di (target docs 1) default_prefs)) first) (record { tables = tables_with []; indexes = xs; preferences = no_preferences; thesauri = no_thesauri })) indexes_created
     (new_index_stands first without_index di docs built.Context (table_with []) 1 (as_wanted default_prefs []) first_stands di_name the_defaults_are refl refl index_free))
 
 -- ---- INSERT INTO docs
@@ -419,7 +423,7 @@ postings_are =
 abbrev fourth_changes : List KeyChange
 fourth_changes = (settled_first ++ put_words) ++ put_value (key kind.Indexes di []) (index_bytes docs 1 default_prefs 2) ∷ []
 
-fourth_are : kinds.sync_changes tt (table_at (tables_with one_row) docs) di waiting ≡ fourth_changes
+fourth_are : kinds.sync_changes its_thesauri (table_at (tables_with one_row) docs) di waiting ≡ fourth_changes
 fourth_are =
     ap (context_sync_changes di waiting_context its_texts) one_waits
     ∙ ap (λ (ws : List KeyChange). (settled_first ++ ws) ++ put_value (key kind.Indexes di []) (context_entry (record waiting_context { body = context_synced waiting_context.body })) ∷ []) postings_are
@@ -428,11 +432,11 @@ fourth_are =
 few_enough : has_too_many waiting ≡ false
 few_enough = ap (λ (rs : List ℤ). not (nat_le (0 + length rs) mark_limit)) one_waits
 
-indexes_synced : indexes_after_sync kinds tt (tables_with one_row) di (indexes_with 0 ((pos 1, Pending) ∷ [])) ≡ indexes_with 1 ((pos 1, Settled tt) ∷ [])
+indexes_synced : indexes_after_sync kinds its_thesauri (tables_with one_row) di (indexes_with 0 ((pos 1, Pending) ∷ [])) ≡ indexes_with 1 ((pos 1, Settled tt) ∷ [])
 indexes_synced =
     let marks : Rows Its = from_sorted ((pos 1, Pending) ∷ []) in
     let all : Rows Its = all_settled marks in
-    let change : Index → Index = index_after_sync kinds tt (tables_with one_row) in
+    let change : Index → Index = index_after_sync kinds its_thesauri (tables_with one_row) in
     ap (altered (indexes_with 0 ((pos 1, Pending) ∷ [])) di change) (index_there 0 ((pos 1, Pending) ∷ []))
     ∙ insert_is (slice_cmp nat_cmp) nat_list_cmp_total (indexes_with 0 ((pos 1, Pending) ∷ [])) di (change waiting) ((di, waiting) ∷ []) (entries-from_sorted (slice_cmp nat_cmp) ((di, waiting) ∷ []) tt) tt
     ∙ ap (λ (rs : List ℤ). indexes_of (context_of (part_with_marks (length rs) (part_with 0)) all)) one_waits
@@ -446,8 +450,8 @@ fourth = after (spell fourth_changes) third
 fourth_stands : StandsForState fourth (state_with one_row 1 ((pos 1, Settled tt) ∷ []))
 fourth_stands =
     subst (λ (ws : List KeyChange). StandsForState (after (spell ws) third) (state_with one_row 1 ((pos 1, Settled tt) ∷ []))) fourth_are
-    (subst (λ (xs : Names Index). StandsForState (after (spell (kinds.sync_changes tt (table_at (tables_with one_row) docs) di waiting)) third) (record { tables = tables_with one_row; indexes = xs; preferences = no_preferences; thesauri = no_thesauri })) indexes_synced
-    (synced_stands third (state_with one_row 0 ((pos 1, Pending) ∷ [])) di waiting refl third_stands (index_there 0 ((pos 1, Pending) ∷ [])) few_enough))
+    (subst (λ (xs : Names Index). StandsForState (after (spell (kinds.sync_changes its_thesauri (table_at (tables_with one_row) docs) di waiting)) third) (record { tables = tables_with one_row; indexes = xs; preferences = no_preferences; thesauri = no_thesauri })) indexes_synced
+    (synced_stands third (state_with one_row 0 ((pos 1, Pending) ∷ [])) di waiting third_stands (index_there 0 ((pos 1, Pending) ∷ [])) few_enough))
 
 -- ---- INSERT INTO docs once more
 

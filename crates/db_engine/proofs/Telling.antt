@@ -5,7 +5,7 @@ use Rattle.std.specs.Bool.{if◌then◌else◌}
 use Rattle.std.specs.declared.alloc.Global.{Global}
 use Rattle.ct_keep.specs.KeeperViews.{KeeperView}
 use Rattle.db_cond.specs.Faults.{Refusal, NotUnderstood, UnknownName, ExistsAlready, WrongValues, KeyExists, ValueTooLong, StatementTooLong, QuerySyntax, NotInProfile, QueryNumber, NotOneWord, UnknownSection, FieldInside, UnknownThesaurus, TooManyTerms, QueryTooLarge, OutOfRange, NoIndexOfKind, BadValue, LimitReached, InNoSubIndex, refusal_line, store_full}
-use Rattle.st_parse.specs.declared.procedures.Procedure.TheVariants.{PolicyTokens, SyncIndex, Define, Thesaurus}
+use Rattle.st_parse.specs.declared.procedures.Procedure.TheVariants.{PolicyTokens, SyncIndex, ResultSet, Define, Thesaurus}
 use Rattle.st_parse.specs.declared.statements.Statement.{Statement}
 use Rattle.st_parse.specs.declared.statements.Statement.TheVariants.{CreateTable, DropTable, DropIndex, CreateIndex, Insert, Update, Delete, Select, Exec, Commit}
 use Rattle.db_change.specs.Creating.{table_created}
@@ -81,6 +81,7 @@ not_done (CreateTable name columns) done rows is full = let line : line_for_all 
 not_done (CreateIndex name table column kind parameters parallel) done rows is full = let e : 110 ≡ 56 = ap second (ap (λ (l : DoneLines). l rows) (if_some (is_built_index kind parallel) (line_for_all index_created) done is) ∙ full) in omega (arith, e)
 not_done (Insert table columns values) done rows is full = let line : line_for_all row_created ≡ done = cc in let e : 32 ≡ 56 = ap second (ap (λ (l : DoneLines). l rows) line ∙ full) in omega (arith, e)
 not_done (Exec PolicyTokens args) done rows is full = cc
+not_done (Exec ResultSet args) done rows is full = cc
 not_done (Exec SyncIndex args) done rows is full = let line : line_for_all call_done ≡ done = cc in let e : 76 ≡ 56 = ap second (ap (λ (l : DoneLines). l rows) line ∙ full) in omega (arith, e)
 not_done (Exec (Define definition) args) done rows is full = let line : line_for_all call_done ≡ done = cc in let e : 76 ≡ 56 = ap second (ap (λ (l : DoneLines). l rows) line ∙ full) in omega (arith, e)
 not_done (Exec (Thesaurus procedure) args) done rows is full = let line : line_for_all call_done ≡ done = cc in let e : 76 ≡ 56 = ap second (ap (λ (l : DoneLines). l rows) line ∙ full) in omega (arith, e)
@@ -102,6 +103,7 @@ fixed_looks (CreateIndex name table column kind parameters parallel) is = if_non
 fixed_looks (Insert table columns values) is = cc
 fixed_looks (Exec PolicyTokens args) is = refl
 fixed_looks (Exec SyncIndex args) is = cc
+fixed_looks (Exec ResultSet args) is = cc
 fixed_looks (Exec (Define definition) args) is = cc
 fixed_looks (Exec (Thesaurus procedure) args) is = cc
 fixed_looks (DropTable name) is = cc

@@ -10,7 +10,7 @@ use Rattle.st_parse.specs.declared.statements.Arg.{Arg}
 use Rattle.st_parse.specs.declared.statements.SelectList.TheVariants.{Star}
 use Rattle.st_parse.specs.declared.procedures.Definition.TheVariants.{CreateStoplist}
 use Rattle.st_parse.specs.declared.procedures.Procedure.{Procedure}
-use Rattle.st_parse.specs.declared.procedures.Procedure.TheVariants.{PolicyTokens, SyncIndex, Define, Thesaurus}
+use Rattle.st_parse.specs.declared.procedures.Procedure.TheVariants.{PolicyTokens, SyncIndex, ResultSet, Define, Thesaurus}
 use Rattle.st_parse.specs.declared.statements.Statement.{Statement}
 use Rattle.st_parse.specs.declared.statements.Statement.TheVariants.{CreateTable, DropTable, DropIndex, CreateIndex, Insert, Update, Delete, Select, Exec, Commit}
 use Rattle.db_cond.specs.Faults.{store_full}
@@ -83,6 +83,7 @@ index_line built = if built then Some (line_for_all index_created) else None
 abbrev pub call_line : Procedure → Option DoneLines
 call_line PolicyTokens = None
 call_line SyncIndex = Some (line_for_all call_done)
+call_line ResultSet = None
 call_line (Define definition) = Some (line_for_all call_done)
 call_line (Thesaurus procedure) = Some (line_for_all call_done)
 
@@ -103,10 +104,11 @@ done_line Commit = None
 abbrev pub is_fixed_call : Procedure → List Arg → Bool
 is_fixed_call PolicyTokens args = reads_no_preference args
 is_fixed_call SyncIndex args = false
+is_fixed_call ResultSet args = false
 is_fixed_call (Define definition) args = false
 is_fixed_call (Thesaurus procedure) args = false
 
--- Whether the reply to a statement is the same in every state: it asks of a text alone, is COMMIT, or makes an index of a type that isn't built yet.
+-- Whether the reply to a statement is the same in every state: it asks of a text alone, is COMMIT, or makes an index with PARALLEL, which isn't built yet.
 abbrev pub is_fixed : Statement → Bool
 is_fixed (CreateTable name columns) = false
 is_fixed (CreateIndex name table column kind parameters parallel) = not (is_built_index kind parallel)
@@ -167,6 +169,9 @@ definition_line = refl
 
 select_line : done_line (Select Star (codes "docs") [] []) ≡ None
 select_line = refl
+
+result_line : done_line (Exec ResultSet []) ≡ None
+result_line = refl
 
 tokens_fixed : is_fixed (Exec PolicyTokens []) ≡ true
 tokens_fixed = refl

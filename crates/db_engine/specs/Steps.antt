@@ -12,17 +12,18 @@ use Rattle.ucd_category.proofs.Computing.{ucd_category}
 use Rattle.caseless.proofs.Computing.{caseless}
 use Rattle.tx_chars.specs.Keys.{key_text}
 use Rattle.st_parse.specs.declared.statements.IndexKind.{IndexKind}
-use Rattle.st_parse.specs.declared.statements.IndexKind.TheVariants.{Context}
+use Rattle.st_parse.specs.declared.statements.IndexKind.TheVariants.{Context, Ctxrule}
 use Rattle.st_parse.specs.declared.statements.Whole.{Whole}
 use Rattle.st_parse.specs.declared.statements.Whole.TheVariants.{Fits}
 use Rattle.st_parse.specs.declared.procedures.Procedure.{Procedure}
-use Rattle.st_parse.specs.declared.procedures.Procedure.TheVariants.{PolicyTokens, SyncIndex, Define, Thesaurus}
+use Rattle.st_parse.specs.declared.procedures.Procedure.TheVariants.{PolicyTokens, SyncIndex, ResultSet, Define, Thesaurus}
 use Rattle.st_parse.specs.declared.statements.Statement.{Statement}
 use Rattle.st_parse.specs.declared.statements.Statement.TheVariants.{CreateTable, DropTable, DropIndex, CreateIndex, Insert, Update, Delete, Select, Exec, Commit}
 use Rattle.st_parse.specs.Grammar.{Read, NoStatement, Found, read}
 use Rattle.st_parse.specs.Grammar.{Blank}
 use Rattle.db_change.specs.Creating.{create_table}
 use Rattle.db_index.specs.declared.kinds.BuiltKind.{BuiltKind}
+use Rattle.db_index.specs.declared.kinds.BuiltKind.TheVariants.{Rules}
 use Rattle.db_index.specs.Kinds.{built_kind}
 use Rattle.db_index.specs.Indexing.{create_index}
 use Rattle.db_change.specs.Inserting.{insert_into}
@@ -34,6 +35,7 @@ use Rattle.db_select.specs.Statements.{select_statement}
 use Rattle.db_select.specs.Choosing.{selection}
 use Rattle.db_index.specs.Tokenizing.{policy_tokens}
 use Rattle.db_index.specs.Syncing.{sync_index}
+use Rattle.db_hits.specs.Calling.{result_set}
 use Rattle.db_prefs.specs.Defining.{define}
 use Rattle.db_thes.specs.Calling.{call_thesaurus}
 
@@ -42,12 +44,13 @@ use Rattle.db_thes.specs.Calling.{call_thesaurus}
 abbrev pub call : StoreState → Procedure → List Arg → Effect
 call m PolicyTokens args = policy_tokens m args
 call m SyncIndex args = sync_index m args
+call m ResultSet args = result_set m args
 call m (Define definition) args = define m definition args
 call m (Thesaurus procedure) args = call_thesaurus m procedure args
 
--- the kind of an index without PARALLEL, where it is built
+-- the kind of an index without PARALLEL, which isn't built yet
 abbrev pub built_index : IndexKind → Option Whole → Option BuiltKind
-built_index kind None = built_kind kind
+built_index kind None = Some (built_kind kind)
 built_index kind (Some degree) = None
 
 abbrev pub is_built_index : IndexKind → Option Whole → Bool
@@ -78,6 +81,7 @@ effect m Commit = Does m commit_complete
 abbrev pub may_fill_by : Procedure → Bool
 may_fill_by PolicyTokens = false
 may_fill_by SyncIndex = true
+may_fill_by ResultSet = false
 may_fill_by (Define definition) = true
 may_fill_by (Thesaurus procedure) = true
 
@@ -121,6 +125,9 @@ rest_step limit m bytes = if nat_le (length bytes) limit then rest_of m (read_by
 an_index_in_parallel : built_index Context (Some (Fits (pos 2))) ≡ None
 an_index_in_parallel = refl
 
+an_index_of_rules : (m : StoreState) → effect m (CreateIndex (codes "ri") (codes "rules") (codes "rule") Ctxrule None None) ≡ create_index m (codes "ri") (codes "rules") (codes "rule") Rules None
+an_index_of_rules m = refl
+
 abbrev reply : List ℕ → List ℕ
 reply bytes = reply_by (statement_step 65536 empty_state bytes)
 
@@ -140,6 +147,11 @@ no_token = refl
 accented : reply (codes "EXEC CTX_DOC.POLICY_TOKENS('CAF" ++ (0xC3 ∷ 0x89 ∷ []) ++ codes "')") ≡ codes "caf" ++ (0xC3 ∷ 0xA9 ∷ []) ++ codes "|0|5\n"
 unfolding encode digits chars is_utf8 caseless ucd_category key_text
 accented = refl
+
+-- the first argument spells no name
+no_name_of_an_index : reply (codes "EXEC CTX_QUERY.RESULT_SET('no name', 'fox', 'count')") ≡ codes "E30: bad attribute or value\n"
+unfolding chars is_utf8 encode
+no_name_of_an_index = refl
 
 -- half of it, in a comment
 no_text : reply (codes "-- " ++ 0xC3 ∷ []) ≡ codes "E10: statement not understood\n"
@@ -169,6 +181,9 @@ sync_may_fill = refl
 
 tokens_never_fill : may_fill (Exec PolicyTokens []) ≡ false
 tokens_never_fill = refl
+
+result_never_fills : may_fill (Exec ResultSet []) ≡ false
+result_never_fills = refl
 
 deletion_never_fills : may_fill (Delete (codes "docs") []) ≡ false
 deletion_never_fills = refl

@@ -8,7 +8,7 @@ ghost use Rattle.db_cond.specs.Faults.{NotUnderstood, refusal_line};
 ghost use Rattle.db_state.specs.Effects.{reply_by};
 ghost use Rattle.db_state.specs.States.{StoreState};
 ghost use Rattle.db_engine.specs.Steps.{call as call_effect, create_index_if, effect, built_index as index_built, may_fill, may_fill_by};
-ghost use Rattle.db_engine.specs.Looking.{LooksAsAllowed};
+ghost use Rattle.db_engine.specs.Looking.{CallLooksAsAllowed, LooksAsAllowed};
 ghost use Rattle.db_engine.specs.Executing.{ExecutesStatement, FullByCount, IfText, NoTextIsFull, Tells, call_line, done_line, fault_of_stop, index_line, is_fixed, is_fixed_call};
 ghost use Rattle.db_state.specs.Plans.{DoneLines, GivesReply, Replies};
 
@@ -17,6 +17,7 @@ use ct_base::{Bytes, Listed, Memory, Name, Text};
 use ct_keep::{KeepFault, Keeper};
 use db_change::{create_table, delete_from, drop_table, insert_into, update};
 use db_cond::not_understood;
+use db_hits::result_set;
 use db_index::{BuiltKind, built_kind, create_index, drop_index, policy_tokens, sync_index};
 use db_prefs::define;
 use db_select::{looking_law, select};
@@ -46,10 +47,13 @@ fn call<R: Threads + Sync, K: Keeper>(
     ensures serves { Replies K.view keeper.old keeper.new result (λ m. call_effect m procedure args.now) (call_line procedure) }
     ensures fixed { (m : StoreState) → is_fixed_call procedure args.now ≡ true → GivesReply result (call_effect m procedure args.now) }
     ensures may { result ≡ Err KeepFault.Full → may_fill_by procedure ≡ true }
+    ensures looks { CallLooksAsAllowed procedure args.now (K.view keeper.old) (K.view keeper.new) (fault_of result) }
 {
+    db_hits::looking_law();
     match procedure {
         Procedure::PolicyTokens => policy_tokens(alloc, keeper, args.as_slice()),
         Procedure::SyncIndex => sync_index(rt, alloc, degree, keeper, args.as_slice()),
+        Procedure::ResultSet => result_set(alloc, keeper, args.as_slice()),
         Procedure::Define(definition) => define(alloc, keeper, definition, args.as_slice()),
         Procedure::Thesaurus(procedure) => {
             call_thesaurus(alloc, keeper, procedure, args.as_slice())
@@ -57,12 +61,12 @@ fn call<R: Threads + Sync, K: Keeper>(
     }
 }
 
-/// The kind of an index without PARALLEL, where it is built.
+/// The kind of an index without PARALLEL, which isn't built yet.
 fn built_index(kind: IndexKind, parallel: &Option<Whole>) -> Option<BuiltKind>
     ensures { result ≡ index_built kind parallel.now }
 {
     match parallel {
-        None => built_kind(kind),
+        None => Some(built_kind(kind)),
         Some(_) => None,
     }
 }

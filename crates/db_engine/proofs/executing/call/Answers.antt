@@ -3,12 +3,19 @@ use Rattle.std.proofs.lemmas.Bool.{false≢true}
 use Rattle.std.proofs.lemmas.Result.{IfOk-weaker}
 use Rattle.ct_keep.specs.KeeperViews.{fault_of}
 use Rattle.st_parse.specs.declared.procedures.Procedure.{Procedure}
-use Rattle.st_parse.specs.declared.procedures.Procedure.TheVariants.{PolicyTokens, SyncIndex, Define, Thesaurus}
+use Rattle.st_parse.specs.declared.procedures.Procedure.TheVariants.{PolicyTokens, SyncIndex, ResultSet, Define, Thesaurus}
 use Rattle.st_parse.specs.declared.statements.Arg.{Arg}
 use Rattle.db_state.specs.Effects.{reply_by}
-use Rattle.db_state.specs.laws.Serving.{serves_as}
+use Rattle.db_looks.specs.laws.Composing.{over_as, over_unsaid}
+use Rattle.db_state.specs.States.{StandsForState}
+use Rattle.db_state.specs.laws.Serving.{serves_as, serves_look}
+use Rattle.db_hits.specs.Calling.{result_set}
+use Rattle.db_hits.specs.Looking.{result_allowance}
+use Rattle.db_hits.specs.laws.Allowing.{result_within}
+use Rattle.db_hits.specs.laws.Keeping.{result_keeps}
 use Rattle.db_engine.specs.Steps.{call}
 use Rattle.db_engine.specs.Executing.{call_line, is_fixed_call}
+use Rattle.db_engine.specs.Looking.{call_allowance}
 use Rattle.db_engine.proofs.executing.call.Goals as goal
 
 -- ---- the tokens of a text
@@ -34,6 +41,27 @@ returns-in-SyncIndex-clause-serves g c =
 pub returns-in-SyncIndex-clause-fixed : goal.returns-in-SyncIndex-clause-fixed
 returns-in-SyncIndex-clause-fixed g c = λ m fixed. absurd (false≢true (sym (ap (λ (p : Procedure). is_fixed_call p c.args.args.now) c.in-SyncIndex.is) ∙ fixed))
 
+-- ---- a result set
+
+pub returns-in-ResultSet-clause-serves : goal.returns-in-ResultSet-clause-serves
+returns-in-ResultSet-clause-serves g c =
+    let args : List Arg = c.as_slice-in-ResultSet.result.now in
+    serves_as (λ m. result_set m args) _ None _ _ _ c.result_set.result (λ m. ap (λ (p : Procedure). call m p c.args.args.now) c.in-ResultSet.is ∙ ap (call m ResultSet) (sym c.as_slice-in-ResultSet.ensures)) (ap call_line c.in-ResultSet.is)
+    (serves_look _ _ _ _ c.result_set.ensures.reads c.result_set.ensures.reply (λ m. result_keeps m args))
+
+pub returns-in-ResultSet-clause-fixed : goal.returns-in-ResultSet-clause-fixed
+returns-in-ResultSet-clause-fixed g c = λ m fixed. absurd (false≢true (sym (ap (λ (p : Procedure). is_fixed_call p c.args.args.now) c.in-ResultSet.is) ∙ fixed))
+
+pub returns-in-ResultSet-clause-may : goal.returns-in-ResultSet-clause-may
+returns-in-ResultSet-clause-may g c = λ full. absurd (c.result_set.ensures.reads.not_full (ap fault_of full))
+
+pub returns-in-ResultSet-clause-looks : goal.returns-in-ResultSet-clause-looks
+returns-in-ResultSet-clause-looks g c =
+    let args : List Arg = c.as_slice-in-ResultSet.result.now in
+    over_as StandsForState (λ k m. result_allowance k m args) _ _ _ _
+    (λ k m. ap (λ (p : Procedure). call_allowance k m p c.args.args.now) c.in-ResultSet.is ∙ ap (result_allowance k m) (sym c.as_slice-in-ResultSet.ensures))
+    (result_within g.K.Keeper.view c.args.keeper.now c.result_set.new.keeper args (fault_of c.result_set.result) c.looking_law.ensures c.result_set.ensures.reads c.result_set.ensures.at_most)
+
 -- ---- a definition
 
 pub returns-in-Define-clause-serves : goal.returns-in-Define-clause-serves
@@ -51,3 +79,17 @@ returns-in-Thesaurus-clause-serves g c =
 
 pub returns-in-Thesaurus-clause-fixed : goal.returns-in-Thesaurus-clause-fixed
 returns-in-Thesaurus-clause-fixed g c = λ m fixed. absurd (false≢true (sym (ap (λ (p : Procedure). is_fixed_call p c.args.args.now) c.in-Thesaurus.is) ∙ fixed))
+
+-- ---- what the others look up, of which nothing is said
+
+pub returns-in-PolicyTokens-clause-looks : goal.returns-in-PolicyTokens-clause-looks
+returns-in-PolicyTokens-clause-looks g c = over_unsaid StandsForState _ _ _ _ (λ k m. ap (λ (p : Procedure). call_allowance k m p c.args.args.now) c.in-PolicyTokens.is)
+
+pub returns-in-SyncIndex-clause-looks : goal.returns-in-SyncIndex-clause-looks
+returns-in-SyncIndex-clause-looks g c = over_unsaid StandsForState _ _ _ _ (λ k m. ap (λ (p : Procedure). call_allowance k m p c.args.args.now) c.in-SyncIndex.is)
+
+pub returns-in-Define-clause-looks : goal.returns-in-Define-clause-looks
+returns-in-Define-clause-looks g c = over_unsaid StandsForState _ _ _ _ (λ k m. ap (λ (p : Procedure). call_allowance k m p c.args.args.now) c.in-Define.is)
+
+pub returns-in-Thesaurus-clause-looks : goal.returns-in-Thesaurus-clause-looks
+returns-in-Thesaurus-clause-looks g c = over_unsaid StandsForState _ _ _ _ (λ k m. ap (λ (p : Procedure). call_allowance k m p c.args.args.now) c.in-Thesaurus.is)

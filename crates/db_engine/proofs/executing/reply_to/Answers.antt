@@ -1,12 +1,15 @@
-use Rattle.std.proofs.Common.{◌≡◌, ap, sym, List, None, Option, refl, ◌∙◌}
+use Rattle.std.proofs.Common.{◌≡◌, ℕ, ap, sym, subst, List, None, Option, Result, Vec, refl, ◌∙◌}
 use Rattle.std.specs.Prelude.{is_some}
-use Rattle.std.proofs.lemmas.Result.{err_from_is_err_and, IfOk-weaker}
+use Rattle.std.proofs.lemmas.Result.{err_from_is_err_and}
+use Rattle.std.specs.declared.alloc.Global.{Global}
 use Rattle.ct_keep.specs.KeeperViews.{fault_of}
+use Rattle.ct_keep.specs.declared.keepers.KeepFault.{KeepFault}
 use Rattle.ct_keep.specs.laws.Composing.{reads_none}
 use Rattle.st_parse.specs.declared.statements.ColumnText.{ColumnText}
 use Rattle.st_parse.specs.declared.statements.Statement.{Statement}
 use Rattle.st_parse.specs.declared.statements.Statement.TheVariants.{Commit}
-use Rattle.db_state.specs.Effects.{reply_by}
+use Rattle.db_state.specs.Effects.{Effect, reply_by}
+use Rattle.db_state.specs.Plans.{GivesReply}
 use Rattle.db_change.specs.Creating.{create_table}
 use Rattle.db_index.specs.declared.kinds.BuiltKind.{BuiltKind}
 use Rattle.db_change.specs.Inserting.{insert_into}
@@ -22,8 +25,8 @@ use Rattle.db_select.specs.Statements.{select_statement}
 use Rattle.db_select.specs.Choosing.{selection}
 use Rattle.db_select.specs.laws.Allowing.{select_within}
 use Rattle.db_select.specs.laws.Selects.{statement_keeps}
-use Rattle.db_engine.specs.Looking.{allowance}
-use Rattle.db_engine.specs.Steps.{create_index_if, effect}
+use Rattle.db_engine.specs.Looking.{allowance, call_allowance}
+use Rattle.db_engine.specs.Steps.{call, create_index_if, effect}
 use Rattle.db_engine.specs.Executing.{done_line, index_line, is_fixed}
 use Rattle.db_state.specs.laws.Serving.{serves_short, serves_look, serves_as}
 use Rattle.db_engine.proofs.executing.reply_to.Goals as goal
@@ -102,9 +105,12 @@ returns-in_ok-fixed_reply-in-Commit-clause-fixed g c = λ m fixed. c.in_ok-fixed
 
 -- ---- replies that are the same in every state
 
+gives_as : (result : Result (Vec ℕ Global) KeepFault) (effect other : Effect) → other ≡ effect → GivesReply result effect → GivesReply result other
+gives_as result effect other is gives = subst (GivesReply result) (sym is) gives
+
 pub returns-in-Exec-clause-fixed : goal.returns-in-Exec-clause-fixed
 returns-in-Exec-clause-fixed g c = λ m fixed.
-    IfOk-weaker c.call.result _ _ (λ reply says. says ∙ sym (ap (λ (s : Statement). reply_by (effect m s)) c.in-Exec.is)) (c.call.ensures.fixed m (sym (ap is_fixed c.in-Exec.is) ∙ fixed))
+    gives_as c.call.result (call m c.in-Exec.procedure c.in-Exec.args) (effect m c.args.statement.now) (ap (effect m) c.in-Exec.is) (c.call.ensures.fixed m (sym (ap is_fixed c.in-Exec.is) ∙ fixed))
 
 -- ---- what it looks up, of which something is said of a search
 
@@ -126,7 +132,8 @@ pub returns-in-Insert-clause-looks : goal.returns-in-Insert-clause-looks
 returns-in-Insert-clause-looks g c = over_unsaid StandsForState _ _ _ _ (λ k m. ap (allowance k m) c.in-Insert.is)
 
 pub returns-in-Exec-clause-looks : goal.returns-in-Exec-clause-looks
-returns-in-Exec-clause-looks g c = over_unsaid StandsForState _ _ _ _ (λ k m. ap (allowance k m) c.in-Exec.is)
+returns-in-Exec-clause-looks g c =
+    over_as StandsForState (λ k m. call_allowance k m c.in-Exec.procedure c.in-Exec.args) _ _ _ _ (λ k m. ap (allowance k m) c.in-Exec.is) c.call.ensures.looks
 
 pub returns-in-DropTable-clause-looks : goal.returns-in-DropTable-clause-looks
 returns-in-DropTable-clause-looks g c = over_unsaid StandsForState _ _ _ _ (λ k m. ap (allowance k m) c.in-DropTable.is)
