@@ -1,264 +1,290 @@
 -- What is read is what the arguments ask for.
-use Rattle.std.specs.Prelude.{unwrap_or, option_and_then, codes, nat_le, IfSome, IfNone, map}
+use Rattle.std.specs.Prelude.{option_and_then, codes, nat_le, is_none, IfSome, IfNone}
 use Rattle.std.specs.Char.{is_ascii_digit}
 use Rattle.std.specs.List.{flat_map, list_all, AllByRecursion}
 use Rattle.std.specs.Option.{option_map, option_to_list}
 use Rattle.std.specs.Str.{bytes_eq}
 use Rattle.std.specs.Str.Parse.{digits_value}
-use Rattle.std.proofs.Common.{ℕ, ◌≡◌, ◌≤◌, ◌<◌, ◌+◌, ◌&&◌, Bool, true, false, cond, List, [], ◌∷◌, ◌++◌, length, get_or, drop, Option, Some, None, refl, sym, ap, ◌∙◌, subst, arith, eqb, eqb-true}
+use Rattle.std.proofs.Common.{ℕ, ◌≡◌, ◌≤◌, ◌&&◌, Bool, true, false, cond, List, [], ◌∷◌, ◌++◌, length, Option, Some, None, refl, sym, ap, ◌∙◌, subst, arith, append-nil}
 use Rattle.std.proofs.lemmas.Bool.{and_parts, leb-true}
-use Rattle.std.proofs.lemmas.List.{at_drop_all, at_drop_more}
-use Rattle.std.proofs.lemmas.Option.{some_pair_parts, cond_some}
+use Rattle.std.proofs.lemmas.Option.{cond_some}
 use Rattle.std.proofs.lemmas.Slice.Eq.{bytes_eq-Decides}
 use Rattle.ct_base.specs.laws.Options.{and_then_some, option_map_some}
-use Rattle.db_arguments.specs.declared.reading.Next.{Next}
-use Rattle.db_arguments.specs.declared.reading.Next.TheVariants.{Any, Value, File}
-use Rattle.db_arguments.specs.Arguments.{Item, Spaced, Joined, Plain, item_arguments, item_files, item_values, IsItem, after_items, SpellsLimit, AsksFor, AskForNothing, least_limit, store_limit, is_option_like}
-use Rattle.db_arguments.specs.declared.arguments.Arguments.{Arguments}
-use Rattle.db_arguments.specs.Reading.{ArgumentsSoFar, asked_by, start, limit_of, is_number, is_in_range, with_limit, with_file, with_option, with_item, with_argument, asked_at, after_prefix, outcome}
-use Rattle.db_arguments.specs.laws.OneReading.{IsLimitAfter, refused}
+use Rattle.db_arguments.specs.Arguments.{Part, File, Limit, Rows, OptionName, LimitOption, GenerateOption, spelling, part_of, is_part, if_part, Item, Spaced, Joined, Plain, item_arguments, item_texts, IsItem, after_items, Give, Spells, AskForNothing, least_limit, store_limit, most_rows, is_option_like}
+use Rattle.db_arguments.specs.Gathering.{Values, Next, Any, Value, Trailing, Stage, IsGiven, all_given, gather, gathers, joined_to, met_by, nothing_given, put, stage_by, with_dashes, with_option, with_text, after_prefix}
+use Rattle.db_arguments.specs.Reading.{AskFor, Store, Script, Wanted, is_in_range, is_number, number_of, wanted, wanted_by}
+use Rattle.db_arguments.specs.laws.OneReading.{Adds, others_for, refused, wanted_of}
+use Rattle.db_arguments.specs.declared.arguments.Asked.{Asked}
+use Rattle.db_arguments.specs.declared.parsing.Given.{Given}
+use Rattle.db_arguments.proofs.Form.{prefix_is}
+
+-- ---- numbers
+
+-- a number that is read is spelt
+read_is_spelt : (least greatest : ℕ) (value : List ℕ) (number : ℕ) → number_of least greatest value ≡ Some number → Spells least greatest value number
+read_is_spelt least greatest value number e =
+    let p = cond_some (is_number value && is_in_range least greatest (digits_value 10 value)) (digits_value 10 value) number e in
+    let tests = and_parts (is_number value) _ p.0 in
+    let digits = and_parts (list_all is_ascii_digit value) _ tests.0 in
+    let size = and_parts (nat_le 1 (length value)) _ digits.1 in
+    let fits = and_parts (nat_le least (digits_value 10 value)) _ tests.1 in
+    let low : least ≤ digits_value 10 value = leb-true _ _ fits.0 in
+    let high : digits_value 10 value ≤ greatest = leb-true _ _ fits.1 in
+    record {
+      digits = digits.0;
+      not_empty = leb-true _ _ size.0;
+      at_most_twenty = leb-true _ _ size.1;
+      is = p.1;
+      at_least = omega (arith, low, p.1);
+      at_most = omega (arith, high, p.1);
+    }
 
 -- ---- one argument
 
--- a limit that is read is spelt
-read_is_spelt : (value : List ℕ) (limit : ℕ) → limit_of value ≡ Some limit → SpellsLimit value limit
-read_is_spelt value limit e =
-    let p = cond_some (is_number value && is_in_range (digits_value 10 value)) (digits_value 10 value) limit e in
-    let tests = and_parts (is_number value) _ p.0 in
-    let number = and_parts (list_all is_ascii_digit value) _ tests.0 in
-    let size = and_parts (nat_le 1 (length value)) _ number.1 in
-    let fits = and_parts (nat_le least_limit (digits_value 10 value)) _ tests.1 in
-    let low : least_limit ≤ digits_value 10 value = leb-true _ _ fits.0 in
-    let high : digits_value 10 value ≤ store_limit = leb-true _ _ fits.1 in
-    record {
-      digits = number.0;
-      not_empty = leb-true _ _ size.0;
-      at_most_twenty = leb-true _ _ size.1;
-      number = p.1;
-      least = omega (arith, p.1);
-      greatest = omega (arith, p.1);
-    }
-
-prefix_is : (prefix text rest : List ℕ) → after_prefix prefix text ≡ Some rest → text ≡ prefix ++ rest
-prefix_is [] text rest e = cc
-prefix_is (p ∷ ps) [] rest e = cc
-prefix_is (p ∷ ps) (b ∷ bs) rest e = go (eqb b p) refl (prefix_is ps bs rest) e
+-- what one text more leaves
+put_taken : (v u : Values) (part : Part) (text : List ℕ) → put v part text ≡ Some u → (v part ≡ None) × (with_text v part text ≡ u)
+put_taken v u part text e = go (v part) refl e
   where
-    go : (t : Bool) → eqb b p ≡ t → (after_prefix ps bs ≡ Some rest → bs ≡ ps ++ rest) → cond t (after_prefix ps bs) None ≡ Some rest → b ∷ bs ≡ p ∷ (ps ++ rest)
-    go true same more f = let one : b ≡ p = eqb-true b p same in let others : bs ≡ ps ++ rest = more f in cc
-    go false same more f = cc
+    go : (o : Option (List ℕ)) → v part ≡ o → cond (is_none o) (Some (with_text v part text)) None ≡ Some u → (v part ≡ None) × (with_text v part text ≡ u)
+    go None is f = (is, cc)
+    go (Some other) is f = cc
 
--- what one value more leaves
-pub record TakesValue (found : Option (List ℕ)) (given : Option ℕ) (value : List ℕ) (t : ArgumentsSoFar) : Type 0 where
-  pub limit : ℕ
-  pub none : given ≡ None
-  pub spelt : SpellsLimit value limit
-  pub after : t ≡ record { file = found; limit = Some limit; next = Any }
-
-value_taken : (found : Option (List ℕ)) (given : Option ℕ) (next : Next) (value : List ℕ) (t : ArgumentsSoFar)
-    → with_limit (record { file = found; limit = given; next = next }) value ≡ Some t → TakesValue found given value t
-value_taken found (Some n) next value t e = cc
-value_taken found None next value t e =
-    let p = option_map_some (λ (n : ℕ). record { file = found; limit = Some n; next = Any }) (limit_of value) t e in
-    record { limit = p.0; none = refl; spelt = read_is_spelt value p.0 p.1; after = sym p.2 }
-
--- what one FILE more leaves
-file_taken : (found : Option (List ℕ)) (given : Option ℕ) (next : Next) (file : List ℕ) (t : ArgumentsSoFar)
-    → with_file (record { file = found; limit = given; next = next }) file ≡ Some t
-    → (found ≡ None) × (t ≡ record { file = Some file; limit = given; next = next })
-file_taken None given next file t e = (refl, cc)
-file_taken (Some f) given next file t e = cc
+then_taken : (v : Values) (part : Part) (text : List ℕ) (next : Next) (s : Stage) → stage_by next (put v part text) ≡ Some s → (v part ≡ None) × ((with_text v part text, next) ≡ s)
+then_taken v part text next s e =
+    let p = option_map_some (λ (u : Values). (u, next)) (put v part text) s e in
+    let q = put_taken v p.0 part text p.1 in
+    (q.0, ap (λ (u : Values). (u, next)) q.1 ∙ p.2)
 
 -- an argument that begins an item, or is the `--`: which of these it is, and what it leaves
-pub data Takes (found : Option (List ℕ)) (given : Option ℕ) (argument : List ℕ) (t : ArgumentsSoFar) : Type 0 where
-  IsEnd : argument ≡ codes "--" → t ≡ record { file = found; limit = given; next = File } → Takes found given argument t
-  IsOption : argument ≡ codes "--limit" → t ≡ record { file = found; limit = given; next = Value } → Takes found given argument t
-  IsJoined : (value : List ℕ) → argument ≡ codes "--limit=" ++ value → TakesValue found given value t → Takes found given argument t
-  IsFile : is_option_like argument ≡ false → found ≡ None → t ≡ record { file = Some argument; limit = given; next = Any } → Takes found given argument t
+pub data Takes (v : Values) (argument : List ℕ) (s : Stage) : Type 0 where
+  IsEnd : argument ≡ codes "--" → (v, Trailing) ≡ s → Takes v argument s
+  IsOption : (option : OptionName) → argument ≡ spelling option → (v, Value option) ≡ s → Takes v argument s
+  IsJoined : (option : OptionName) (value : List ℕ) → argument ≡ spelling option ++ 61 ∷ value → v (part_of option) ≡ None → (with_text v (part_of option) value, Any) ≡ s → Takes v argument s
+  IsFile : is_option_like argument ≡ false → v File ≡ None → (with_text v File argument, Any) ≡ s → Takes v argument s
 
-module _ (found : Option (List ℕ)) (given : Option ℕ) (argument : List ℕ) (t : ArgumentsSoFar) where
-  joined_taken : (o : Option (List ℕ)) → after_prefix (codes "--limit=") argument ≡ o
-      → option_and_then (with_limit (record { file = found; limit = given; next = Any })) o ≡ Some t → Takes found given argument t
-  joined_taken None is e = cc
-  joined_taken (Some value) is e = IsJoined value (prefix_is (codes "--limit=") argument value is) (value_taken found given Any value t e)
+module _ (v : Values) (argument : List ℕ) (s : Stage) where
+  option_taken : (a b : Bool) (o p : Option (List ℕ)) → bytes_eq argument (codes "--limit") ≡ a → bytes_eq argument (codes "--generate") ≡ b
+      → after_prefix (codes "--limit=") argument ≡ o → after_prefix (codes "--generate=") argument ≡ p
+      → with_option v (cond a (Some (LimitOption, None)) (cond b (Some (GenerateOption, None)) (joined_to LimitOption o (joined_to GenerateOption p None)))) ≡ Some s → Takes v argument s
+  option_taken true b o p ea eb eo ep e = IsOption LimitOption ((bytes_eq-Decides argument (codes "--limit")).0 ea) (cc)
+  option_taken false true o p ea eb eo ep e = IsOption GenerateOption ((bytes_eq-Decides argument (codes "--generate")).0 eb) (cc)
+  option_taken false false (Some value) p ea eb eo ep e = let q = then_taken v Limit value Any s e in IsJoined LimitOption value (prefix_is (codes "--limit=") argument value eo) q.0 q.1
+  option_taken false false None (Some value) ea eb eo ep e = let q = then_taken v Rows value Any s e in IsJoined GenerateOption value (prefix_is (codes "--generate=") argument value ep) q.0 q.1
+  option_taken false false None None ea eb eo ep e = cc
 
-  option_taken : (a b : Bool) → bytes_eq argument (codes "--") ≡ a → bytes_eq argument (codes "--limit") ≡ b
-      → cond a (Some (record { file = found; limit = given; next = File })) (cond b (Some (record { file = found; limit = given; next = Value }))
-      (option_and_then (with_limit (record { file = found; limit = given; next = Any })) (after_prefix (codes "--limit=") argument))) ≡ Some t
-      → Takes found given argument t
-  option_taken true b is apart e = IsEnd ((bytes_eq-Decides argument (codes "--")).0 is) (cc)
-  option_taken false true apart is e = IsOption ((bytes_eq-Decides argument (codes "--limit")).0 is) (cc)
-  option_taken false false apart other e = joined_taken (after_prefix (codes "--limit=") argument) refl e
+  dashes_taken : (a : Bool) → bytes_eq argument (codes "--") ≡ a → cond a (Some (v, Trailing)) (with_option v (met_by argument)) ≡ Some s → Takes v argument s
+  dashes_taken true is e = IsEnd ((bytes_eq-Decides argument (codes "--")).0 is) (cc)
+  dashes_taken false other e =
+      option_taken (bytes_eq argument (codes "--limit")) (bytes_eq argument (codes "--generate")) (after_prefix (codes "--limit=") argument) (after_prefix (codes "--generate=") argument) refl refl refl refl e
 
-  item_taken_as : (a : Bool) → is_option_like argument ≡ a
-      → cond a (with_option (record { file = found; limit = given; next = Any }) argument) (with_file (record { file = found; limit = given; next = Any }) argument) ≡ Some t
-      → Takes found given argument t
-  item_taken_as true is e = option_taken (bytes_eq argument (codes "--")) (bytes_eq argument (codes "--limit")) refl refl e
-  item_taken_as false is e = let p = file_taken found given Any argument t e in IsFile is p.0 p.1
-
-  pub item_taken : with_item (record { file = found; limit = given; next = Any }) argument ≡ Some t → Takes found given argument t
-  item_taken e = item_taken_as (is_option_like argument) refl e
+  item_taken : (a : Bool) → is_option_like argument ≡ a → cond a (with_dashes v argument) (stage_by Any (put v File argument)) ≡ Some s → Takes v argument s
+  item_taken true is e = dashes_taken (bytes_eq argument (codes "--")) refl e
+  item_taken false is e = let p = then_taken v File argument Any s e in IsFile is p.0 p.1
 
 -- ---- all arguments
 
--- what these arguments ask for after what was found and given before them
-pub record AsksAfter (found : Option (List ℕ)) (given : Option ℕ) (arguments : List (List ℕ)) (file : List ℕ) (limit : ℕ) : Type 0 where
+-- what these arguments give after what was given before them
+pub record GiveAfter (v : Values) (arguments : List (List ℕ)) (u : Values) : Type 0 where
   pub items : List Item
   pub others : Option (List (List ℕ))
   pub are_items : AllByRecursion IsItem items
   pub spelt : arguments ≡ flat_map item_arguments items ++ after_items others
-  pub one_file : option_to_list found ++ (flat_map item_files items ++ unwrap_or others []) ≡ file ∷ []
-  pub limited : IsLimitAfter given (flat_map item_values items) limit
+  pub adds : Adds v items others (λ part. option_to_list (u part))
 
--- what they ask for where the first is a value
-pub record AsksByValue (found : Option (List ℕ)) (given : Option ℕ) (arguments : List (List ℕ)) (file : List ℕ) (limit : ℕ) : Type 0 where
+-- what they give where the first is a value
+pub record GiveByValue (v : Values) (option : OptionName) (arguments : List (List ℕ)) (u : Values) : Type 0 where
   pub value : List ℕ
   pub rest : List (List ℕ)
-  pub number : ℕ
   pub spelt : arguments ≡ value ∷ rest
-  pub none : given ≡ None
-  pub spells : SpellsLimit value number
-  pub asks : AsksAfter found (Some number) rest file limit
+  pub none : v (part_of option) ≡ None
+  pub give : GiveAfter (with_text v (part_of option) value) rest u
 
-only_limit : (given : Option ℕ) (limit : ℕ) → unwrap_or given store_limit ≡ limit → IsLimitAfter given [] limit
-only_limit None limit e = sym e
-only_limit (Some n) limit e = e
+-- what they give where each is a FILE
+abbrev pub GiveFiles : Values → List (List ℕ) → Values → Type 0
+GiveFiles v arguments u = (part : Part) → option_to_list (v part) ++ others_for part (Some arguments) ≡ option_to_list (u part)
 
-one_value : (value : List ℕ) (number : ℕ) (values : List (List ℕ)) (limit : ℕ) → SpellsLimit value number → IsLimitAfter (Some number) values limit → IsLimitAfter None (value ∷ values) limit
-one_value value number [] limit spells same = subst (λ (n : ℕ). SpellsLimit value n) same spells
-one_value value number (v ∷ vs) limit spells same = absurd same
+-- a text more in front
+module _ (v u : Values) (text : List ℕ) (r s : Part → List (List ℕ)) where
+  abbrev With : Part → Type 0
+  With part = (p : Part) → option_to_list (with_text v part text p) ++ (r p ++ s p) ≡ option_to_list (u p)
 
--- the arguments after a `--`
-others_ask : (others : List (List ℕ)) (found : Option (List ℕ)) (given : Option ℕ) (file : List ℕ) (limit : ℕ)
-    → outcome (record { file = found; limit = given; next = File }) others ≡ Some (file, limit)
-    → (option_to_list found ++ others ≡ file ∷ []) × (unwrap_or given store_limit ≡ limit)
-others_ask [] None given file limit e = cc
-others_ask [] (Some f) given file limit e = let p = some_pair_parts f file (unwrap_or given store_limit) limit e in (ap (λ (x : List ℕ). x ∷ []) p.0, p.1)
-others_ask (o ∷ os) None given file limit e = others_ask os (Some o) given file limit e
-others_ask (o ∷ os) (Some f) given file limit e = cc
+  abbrev Without : Part → Type 0
+  Without part = (p : Part) → option_to_list (v p) ++ ((if_part (is_part p part) text ++ r p) ++ s p) ≡ option_to_list (u p)
+
+  own_text : (part : Part) → v part ≡ None → text ∷ (r part ++ s part) ≡ option_to_list (u part) → option_to_list (v part) ++ text ∷ (r part ++ s part) ≡ option_to_list (u part)
+  own_text part none h = subst (λ (o : Option (List ℕ)). option_to_list o ++ text ∷ (r part ++ s part) ≡ option_to_list (u part)) (sym none) h
+
+  text_before : (part : Part) → v part ≡ None → With part → Without part
+  text_before File none h File = own_text File none (h File)
+  text_before File none h Limit = h Limit
+  text_before File none h Rows = h Rows
+  text_before Limit none h File = h File
+  text_before Limit none h Limit = own_text Limit none (h Limit)
+  text_before Limit none h Rows = h Rows
+  text_before Rows none h File = h File
+  text_before Rows none h Limit = h Limit
+  text_before Rows none h Rows = own_text Rows none (h Rows)
 
 -- with an item before them
-module _ (found : Option (List ℕ)) (given : Option ℕ) (arguments : List (List ℕ)) (file : List ℕ) (limit : ℕ) where
-  after_file : (argument : List ℕ) → is_option_like argument ≡ false → AsksAfter (Some argument) given arguments file limit → AsksAfter None given (argument ∷ arguments) file limit
-  after_file argument plain r = record {
+module _ (v : Values) (arguments : List (List ℕ)) (u : Values) where
+  after_file : (argument : List ℕ) → is_option_like argument ≡ false → v File ≡ None → GiveAfter (with_text v File argument) arguments u → GiveAfter v (argument ∷ arguments) u
+  after_file argument plain none r = record {
     items = Plain argument ∷ r.items;
     others = r.others;
     are_items = (plain, r.are_items);
     spelt = ap (λ (x : List (List ℕ)). argument ∷ x) r.spelt;
-    one_file = r.one_file;
-    limited = r.limited;
+    adds = text_before v u argument (λ p. flat_map (item_texts p) r.items) (λ p. others_for p r.others) File none r.adds;
   }
 
-  after_joined : (value : List ℕ) (number : ℕ) → SpellsLimit value number → AsksAfter found (Some number) arguments file limit
-      → AsksAfter found None ((codes "--limit=" ++ value) ∷ arguments) file limit
-  after_joined value number spells r = record {
-    items = Joined value ∷ r.items;
+  after_joined : (option : OptionName) (value : List ℕ) → v (part_of option) ≡ None → GiveAfter (with_text v (part_of option) value) arguments u → GiveAfter v ((spelling option ++ 61 ∷ value) ∷ arguments) u
+  after_joined option value none r = record {
+    items = Joined option value ∷ r.items;
     others = r.others;
     are_items = (tt, r.are_items);
-    spelt = ap (λ (x : List (List ℕ)). (codes "--limit=" ++ value) ∷ x) r.spelt;
-    one_file = r.one_file;
-    limited = one_value value number (flat_map item_values r.items) limit spells r.limited;
+    spelt = ap (λ (x : List (List ℕ)). (spelling option ++ 61 ∷ value) ∷ x) r.spelt;
+    adds = text_before v u value (λ p. flat_map (item_texts p) r.items) (λ p. others_for p r.others) (part_of option) none r.adds;
   }
 
-  after_spaced : (value : List ℕ) (number : ℕ) → SpellsLimit value number → AsksAfter found (Some number) arguments file limit
-      → AsksAfter found None (codes "--limit" ∷ value ∷ arguments) file limit
-  after_spaced value number spells r = record {
-    items = Spaced value ∷ r.items;
+  after_spaced : (option : OptionName) (value : List ℕ) → v (part_of option) ≡ None → GiveAfter (with_text v (part_of option) value) arguments u → GiveAfter v (spelling option ∷ value ∷ arguments) u
+  after_spaced option value none r = record {
+    items = Spaced option value ∷ r.items;
     others = r.others;
     are_items = (tt, r.are_items);
-    spelt = ap (λ (x : List (List ℕ)). codes "--limit" ∷ value ∷ x) r.spelt;
-    one_file = r.one_file;
-    limited = one_value value number (flat_map item_values r.items) limit spells r.limited;
+    spelt = ap (λ (x : List (List ℕ)). spelling option ∷ value ∷ x) r.spelt;
+    adds = text_before v u value (λ p. flat_map (item_texts p) r.items) (λ p. others_for p r.others) (part_of option) none r.adds;
   }
 
-  after_end : outcome (record { file = found; limit = given; next = File }) arguments ≡ Some (file, limit) → AsksAfter found given (codes "--" ∷ arguments) file limit
-  after_end e =
-      let p = others_ask arguments found given file limit e in
-      record { items = []; others = Some arguments; are_items = tt; spelt = refl; one_file = p.0; limited = only_limit given limit p.1 }
+  after_end : GiveFiles v arguments u → GiveAfter v (codes "--" ∷ arguments) u
+  after_end h = record { items = []; others = Some arguments; are_items = tt; spelt = refl; adds = h }
 
-abbrev Asks : List (List ℕ) → Type 0
-Asks arguments = (found : Option (List ℕ)) (given : Option ℕ) (file : List ℕ) (limit : ℕ)
-    → outcome (record { file = found; limit = given; next = Any }) arguments ≡ Some (file, limit) → AsksAfter found given arguments file limit
+-- FILEs
+file_before : (v u : Values) (file : List ℕ) (others : List (List ℕ)) → v File ≡ None → GiveFiles (with_text v File file) others u → GiveFiles v (file ∷ others) u
+file_before v u file others none h File = subst (λ (o : Option (List ℕ)). option_to_list o ++ file ∷ others ≡ option_to_list (u File)) (sym none) (h File)
+file_before v u file others none h Limit = h Limit
+file_before v u file others none h Rows = h Rows
 
-abbrev AsksWithValue : List (List ℕ) → Type 0
-AsksWithValue arguments = (found : Option (List ℕ)) (given : Option ℕ) (file : List ℕ) (limit : ℕ)
-    → outcome (record { file = found; limit = given; next = Value }) arguments ≡ Some (file, limit) → AsksByValue found given arguments file limit
+files_give : (arguments : List (List ℕ)) (v u : Values) → gathers v Trailing arguments ≡ Some u → GiveFiles v arguments u
+files_give [] v u e = nothing_more
+  where
+    same : v ≡ u
+    same = cc
 
-none_more : Asks []
-none_more None given file limit e = cc
-none_more (Some f) given file limit e =
-    let p = some_pair_parts f file (unwrap_or given store_limit) limit e in
-    record { items = []; others = None; are_items = tt; spelt = refl; one_file = ap (λ (x : List ℕ). x ∷ []) p.0; limited = only_limit given limit p.1 }
+    nothing_more : GiveFiles v [] u
+    nothing_more File = append-nil (option_to_list (v File)) ∙ ap (λ (w : Values). option_to_list (w File)) same
+    nothing_more Limit = append-nil (option_to_list (v Limit)) ∙ ap (λ (w : Values). option_to_list (w Limit)) same
+    nothing_more Rows = append-nil (option_to_list (v Rows)) ∙ ap (λ (w : Values). option_to_list (w Rows)) same
+files_give (file ∷ others) v u e =
+    let p = and_then_some (λ (s : Stage). gathers s.0 s.1 others) (gather v Trailing file) u e in
+    let q = then_taken v File file Trailing p.0 p.1 in
+    file_before v u file others q.0 (files_give others (with_text v File file) u (ap (λ (s : Stage). gathers s.0 s.1 others) q.1 ∙ p.2))
 
-module _ (argument : List ℕ) (more : List (List ℕ)) (asks : Asks more) where
-  one_more_value : AsksWithValue (argument ∷ more)
-  one_more_value found given file limit e =
-      let p = and_then_some (λ (t : ArgumentsSoFar). outcome t more) (with_limit (record { file = found; limit = given; next = Value }) argument) (file, limit) e in
-      let taken : TakesValue found given argument p.0 = value_taken found given Value argument p.0 p.1 in
-      record {
-        value = argument;
-        rest = more;
-        number = taken.limit;
-        spelt = refl;
-        none = taken.none;
-        spells = taken.spelt;
-        asks = asks found (Some taken.limit) file limit (ap (λ (t : ArgumentsSoFar). outcome t more) (sym taken.after) ∙ p.2);
-      }
+abbrev GiveAny : List (List ℕ) → Type 0
+GiveAny arguments = (v u : Values) → gathers v Any arguments ≡ Some u → GiveAfter v arguments u
 
-  one_more_as : AsksWithValue more → (found : Option (List ℕ)) (given : Option ℕ) (file : List ℕ) (limit : ℕ) (t : ArgumentsSoFar)
-      → Takes found given argument t → outcome t more ≡ Some (file, limit) → AsksAfter found given (argument ∷ more) file limit
-  one_more_as with_value found given file limit t (IsEnd is after) e =
-      subst (λ (v : List ℕ). AsksAfter found given (v ∷ more) file limit) (sym is)
-      (after_end found given more file limit (ap (λ (t : ArgumentsSoFar). outcome t more) (sym after) ∙ e))
-  one_more_as with_value found given file limit t (IsOption is after) e =
-      let r : AsksByValue found given more file limit = with_value found given file limit (ap (λ (t : ArgumentsSoFar). outcome t more) (sym after) ∙ e) in
-      let same : codes "--limit" ∷ r.value ∷ r.rest ≡ argument ∷ more = λ i. sym is i ∷ sym r.spelt i in
-      subst (λ (o : Option ℕ). AsksAfter found o (argument ∷ more) file limit) (sym r.none)
-      (subst (λ (l : List (List ℕ)). AsksAfter found None l file limit) same (after_spaced found None r.rest file limit r.value r.number r.spells r.asks))
-  one_more_as with_value found given file limit t (IsJoined value is taken) e =
-      let r : AsksAfter found (Some taken.limit) more file limit = asks found (Some taken.limit) file limit (ap (λ (t : ArgumentsSoFar). outcome t more) (sym taken.after) ∙ e) in
-      subst (λ (o : Option ℕ). AsksAfter found o (argument ∷ more) file limit) (sym taken.none)
-      (subst (λ (v : List ℕ). AsksAfter found None (v ∷ more) file limit) (sym is) (after_joined found None more file limit value taken.limit taken.spelt r))
-  one_more_as with_value found given file limit t (IsFile plain none after) e =
-      subst (λ (o : Option (List ℕ)). AsksAfter o given (argument ∷ more) file limit) (sym none)
-      (after_file None given more file limit argument plain (asks (Some argument) given file limit (ap (λ (t : ArgumentsSoFar). outcome t more) (sym after) ∙ e)))
+abbrev GiveValue : List (List ℕ) → Type 0
+GiveValue arguments = (v u : Values) (option : OptionName) → gathers v (Value option) arguments ≡ Some u → GiveByValue v option arguments u
 
-  one_more : AsksWithValue more → Asks (argument ∷ more)
-  one_more with_value found given file limit e =
-      let p = and_then_some (λ (t : ArgumentsSoFar). outcome t more) (with_item (record { file = found; limit = given; next = Any }) argument) (file, limit) e in
-      one_more_as with_value found given file limit p.0 (item_taken found given argument p.0 p.1) p.2
+none_more : GiveAny []
+none_more v u e = record { items = []; others = None; are_items = tt; spelt = refl; adds = nothing_more }
+  where
+    same : v ≡ u
+    same = cc
 
-all_ask : (arguments : List (List ℕ)) → Asks arguments × AsksWithValue arguments
-all_ask [] = (none_more, λ found given file limit e. cc)
-all_ask (argument ∷ more) = let r = all_ask more in (one_more argument more r.0 r.1, one_more_value argument more r.0)
+    nothing_more : Adds v [] None (λ part. option_to_list (u part))
+    nothing_more File = append-nil (option_to_list (v File)) ∙ ap (λ (w : Values). option_to_list (w File)) same
+    nothing_more Limit = append-nil (option_to_list (v Limit)) ∙ ap (λ (w : Values). option_to_list (w Limit)) same
+    nothing_more Rows = append-nil (option_to_list (v Rows)) ∙ ap (λ (w : Values). option_to_list (w Rows)) same
 
-read_is_asked : (arguments : List (List ℕ)) (file : List ℕ) (limit : ℕ) → outcome start arguments ≡ Some (file, limit) → AsksFor arguments file limit
-read_is_asked arguments file limit e =
-    let r : AsksAfter None None arguments file limit = (all_ask arguments).0 None None file limit e in
-    record { items = r.items; others = r.others; are_items = r.are_items; spelt = r.spelt; one_file = r.one_file; limited = r.limited }
+module _ (argument : List ℕ) (more : List (List ℕ)) (give : GiveAny more) where
+  from : (s t : Stage) (u : Values) → s ≡ t → gathers t.0 t.1 more ≡ Some u → gathers s.0 s.1 more ≡ Some u
+  from s t u same e = ap (λ (x : Stage). gathers x.0 x.1 more) same ∙ e
 
--- what is given where all has been read
-pub given_is_asked : (arguments : List (List ℕ)) (given : Option Arguments) → option_map asked_by given ≡ outcome start arguments
-    → IfSome given (λ a. AsksFor arguments a.file.now a.limit)
-given_is_asked arguments None e = tt
-given_is_asked arguments (Some a) e = read_is_asked arguments a.file.now a.limit (sym e)
+  value_as : (v u : Values) (option : OptionName) (b : Bool) (s : Stage) → cond b None (stage_by Any (put v (part_of option) argument)) ≡ Some s → gathers s.0 s.1 more ≡ Some u → GiveByValue v option (argument ∷ more) u
+  value_as v u option true s e f = cc
+  value_as v u option false s e f =
+      let q = then_taken v (part_of option) argument Any s e in
+      record { value = argument; rest = more; spelt = refl; none = q.0; give = give (with_text v (part_of option) argument) u (from (with_text v (part_of option) argument, Any) s u q.1 f) }
 
-pub none_is_asked : (arguments : List (List ℕ)) (given : Option Arguments) → option_map asked_by given ≡ outcome start arguments
-    → IfNone given (AskForNothing arguments)
-none_is_asked arguments None e = refused arguments (sym e)
-none_is_asked arguments (Some a) e = tt
+  one_more_value : GiveValue (argument ∷ more)
+  one_more_value v u option e =
+      let p = and_then_some (λ (s : Stage). gathers s.0 s.1 more) (gather v (Value option) argument) u e in
+      value_as v u option (is_option_like argument) p.0 p.1 p.2
 
--- ---- the ways out of the loop
+  one_more_as : GiveValue more → (v u : Values) (s : Stage) → Takes v argument s → gathers s.0 s.1 more ≡ Some u → GiveAfter v (argument ∷ more) u
+  one_more_as with_value v u s (IsEnd is after) e =
+      subst (λ (a : List ℕ). GiveAfter v (a ∷ more) u) (sym is) (after_end v more u (files_give more v u (from (v, Trailing) s u after e)))
+  one_more_as with_value v u s (IsOption option is after) e =
+      let r : GiveByValue v option more u = with_value v u option (from (v, Value option) s u after e) in
+      let same : spelling option ∷ r.value ∷ r.rest ≡ argument ∷ more = λ i. sym is i ∷ sym r.spelt i in
+      subst (λ (l : List (List ℕ)). GiveAfter v l u) same (after_spaced v r.rest u option r.value r.none r.give)
+  one_more_as with_value v u s (IsJoined option value is none after) e =
+      subst (λ (a : List ℕ). GiveAfter v (a ∷ more) u) (sym is)
+      (after_joined v more u option value none (give (with_text v (part_of option) value) u (from (with_text v (part_of option) value, Any) s u after e)))
+  one_more_as with_value v u s (IsFile plain none after) e =
+      after_file v more u argument plain none (give (with_text v File argument) u (from (with_text v File argument, Any) s u after e))
 
-module _ {X : Type 0} (bytes : X → List ℕ) (xs : List X) (s : ArgumentsSoFar) (place : ℕ)
-    (so_far : outcome s (map bytes (drop place xs)) ≡ outcome start (map bytes xs)) where
-  pub at_end : length xs ≤ place → asked_at s.next s ≡ outcome start (map bytes xs)
-  at_end past = sym (at_drop_all (λ (l : List X). outcome s (map bytes l)) xs place past) ∙ so_far
+  one_more : GiveValue more → GiveAny (argument ∷ more)
+  one_more with_value v u e =
+      let p = and_then_some (λ (s : Stage). gathers s.0 s.1 more) (gather v Any argument) u e in
+      one_more_as with_value v u p.0 (item_taken v argument p.0 (is_option_like argument) refl p.1) p.2
 
-  pub at_refused : (x : X) → place < length xs → x ≡ get_or xs place x → with_argument s.next s (bytes x) ≡ None → None ≡ outcome start (map bytes xs)
-  at_refused x within is none =
-      let rest = map bytes (drop (place + 1) xs) in
-      let step : outcome s (map bytes (drop place xs)) ≡ option_and_then (λ (t : ArgumentsSoFar). outcome t rest) (with_argument s.next s (bytes (get_or xs place x))) =
-      at_drop_more (λ (l : List X). outcome s (map bytes l)) xs place x within in
-      let refused : with_argument s.next s (bytes (get_or xs place x)) ≡ None = subst (λ (y : X). with_argument s.next s (bytes y) ≡ None) is none in
-      sym (ap (option_and_then (λ (t : ArgumentsSoFar). outcome t rest)) refused) ∙ sym step ∙ so_far
+all_give : (arguments : List (List ℕ)) → GiveAny arguments × GiveValue arguments
+all_give [] = (none_more, λ v u option e. cc)
+all_give (argument ∷ more) = let r = all_give more in (one_more argument more r.0 r.1, one_more_value argument more r.0)
+
+gathered_give : (arguments : List (List ℕ)) (v : Values) → all_given arguments ≡ Some v → Give arguments (option_to_list (v File)) (option_to_list (v Limit)) (option_to_list (v Rows))
+gathered_give arguments v e =
+    let r : GiveAfter nothing_given arguments v = (all_give arguments).0 nothing_given v e in
+    record {
+      items = r.items;
+      others = r.others;
+      are_items = r.are_items;
+      spelt = r.spelt;
+      files_are = r.adds File;
+      limits_are = sym (append-nil (flat_map (item_texts Limit) r.items)) ∙ r.adds Limit;
+      rows_are = sym (append-nil (flat_map (item_texts Rows) r.items)) ∙ r.adds Rows;
+    }
+
+-- ---- what is asked for
+
+give_asks : (arguments : List (List ℕ)) (file limit rows : Option (List ℕ)) (w : Wanted) → Give arguments (option_to_list file) (option_to_list limit) (option_to_list rows)
+    → wanted file limit rows ≡ Some w → AskFor arguments w
+give_asks arguments (Some file) None None w g e = subst (AskFor arguments) (as_store file store_limit w e) (record { limits = []; give = g; limited = refl })
+  where
+    as_store : (file : List ℕ) (limit : ℕ) (w : Wanted) → Some (Store file limit) ≡ Some w → Store file limit ≡ w
+    as_store file limit w e = cc
+give_asks arguments (Some file) (Some value) None w g e =
+    let p = option_map_some (Store file) (number_of least_limit store_limit value) w e in
+    subst (AskFor arguments) p.2 (record { limits = value ∷ []; give = g; limited = read_is_spelt least_limit store_limit value p.0 p.1 })
+give_asks arguments (Some file) limit (Some rows) w g e = cc
+give_asks arguments None None (Some value) w g e =
+    let p = option_map_some Script (number_of 1 most_rows value) w e in
+    subst (AskFor arguments) p.2 (record { value = value; give = g; spells = read_is_spelt 1 most_rows value p.0 p.1 })
+give_asks arguments None (Some value) rows w g e = cc
+give_asks arguments None None None w g e = cc
+
+-- what is asked for by what was given
+pub given_asks : (arguments : List (List ℕ)) (v : Values) (file limit rows : Option (List ℕ)) (w : Wanted) → all_given arguments ≡ Some v → file ≡ v File → limit ≡ v Limit → rows ≡ v Rows
+    → wanted file limit rows ≡ Some w → AskFor arguments w
+given_asks arguments v file limit rows w are f l r e = give_asks arguments (v File) (v Limit) (v Rows) w (gathered_give arguments v are) (rw (← f, ← l, ← r) e)
+
+pub given_ask_nothing : (arguments : List (List ℕ)) (v : Values) (file limit rows : Option (List ℕ)) → all_given arguments ≡ Some v → file ≡ v File → limit ≡ v Limit → rows ≡ v Rows
+    → wanted file limit rows ≡ None → AskForNothing arguments
+given_ask_nothing arguments v file limit rows are f l r e = refused arguments (ap (option_and_then wanted_of) are ∙ rw (← f, ← l, ← r) e)
+
+pub nothing_gathered : (arguments : List (List ℕ)) → all_given arguments ≡ None → AskForNothing arguments
+nothing_gathered arguments none = refused arguments (ap (option_and_then wanted_of) none)
+
+-- ---- what the code answers
+
+pub asked_some : (arguments : List (List ℕ)) (given : Given) (o : Option Asked) → IsGiven arguments given
+    → option_map wanted_by o ≡ wanted (option_map (λ f. f.now) given.file) (option_map (λ l. l.now) given.limit) (option_map (λ r. r.now) given.rows)
+    → IfSome o (λ a. AskFor arguments (wanted_by a))
+asked_some arguments given None is e = tt
+asked_some arguments given (Some a) is e = given_asks arguments is.values _ _ _ (wanted_by a) is.are is.file is.limit is.rows (sym e)
+
+pub asked_none : (arguments : List (List ℕ)) (given : Given) (o : Option Asked) → IsGiven arguments given
+    → option_map wanted_by o ≡ wanted (option_map (λ f. f.now) given.file) (option_map (λ l. l.now) given.limit) (option_map (λ r. r.now) given.rows)
+    → IfNone o (AskForNothing arguments)
+asked_none arguments given None is e = given_ask_nothing arguments is.values _ _ _ is.are is.file is.limit is.rows (sym e)
+asked_none arguments given (Some a) is e = tt

@@ -1,2 +1,6 @@
-pub mod Asking
-pub mod Digits
+mod Asking
+mod Digits
+mod Form
+mod Given
+mod Parsed
+mod Steps

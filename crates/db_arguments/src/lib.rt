@@ -3,9 +3,9 @@
 
 mod arguments;
 mod laws;
-mod limits;
-mod reading;
+mod numbers;
+mod parsing;
 
-pub use arguments::{Arguments, file_of, read_arguments};
+pub use arguments::{Asked, STORE_LIMIT, Store, file_of, read_arguments};
 pub use laws::one_reading;
-pub use limits::{LEAST_LIMIT, STORE_LIMIT};
+pub use numbers::{LEAST_LIMIT, MOST_ROWS};

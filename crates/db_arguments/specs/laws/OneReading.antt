@@ -1,87 +1,314 @@
 -- Whatever the arguments ask for is what is read from them, so they ask for at most one thing.
-use Rattle.std.specs.Prelude.{ℕ, ◌≡◌, ◌≤◌, true, List, [], ◌∷◌, ◌++◌, codes, Option, Some, None, unwrap_or, refl}
-use Rattle.std.specs.List.{flat_map, AllByRecursion}
-use Rattle.std.specs.Option.{option_to_list}
+use Rattle.std.specs.Prelude.{ℕ, ◌≡◌, ◌≤◌, nat_le, suc, Bool, true, false, List, [], ◌∷◌, ◌++◌, length, codes, Option, Some, None, unwrap_or, option_and_then, is_none, refl}
+use Rattle.std.specs.Bool.{if◌then◌else◌}
+use Rattle.std.specs.List.{flat_map, list_all, AllByRecursion}
+use Rattle.std.specs.Option.{option_map, option_to_list}
+use Rattle.std.specs.Char.{is_ascii_digit}
 use Rattle.std.specs.Str.Parse.{digits_value}
-use Rattle.std.proofs.Common.{sym, ap, ◌∙◌, arith}
-use Rattle.std.proofs.lemmas.Bool.{and_from, le-leb, cond-true}
-use Rattle.std.proofs.lemmas.Option.{some_pair_parts, none-some}
-use Rattle.db_arguments.specs.declared.reading.Next.TheVariants.{Any, File}
-use Rattle.db_arguments.specs.Arguments.{Item, Spaced, Joined, Plain, item_arguments, item_files, item_values, IsItem, after_items, IsLimit, SpellsLimit, AsksFor, AskForNothing, least_limit, store_limit}
-use Rattle.db_arguments.specs.Reading.{Asked, start, limit_of, is_number, is_in_range, outcome}
+use Rattle.std.proofs.Common.{sym, ap, ◌∙◌, subst, arith, append-nil, true≢false, ne_eqb}
+use Rattle.std.proofs.lemmas.Bool.{and_from, and_parts, le-leb, leb-true, cond-true}
+use Rattle.std.proofs.lemmas.Option.{none-some}
+use Rattle.db_arguments.specs.Arguments.{Part, File, Limit, Rows, OptionName, LimitOption, GenerateOption, spelling, part_of, is_part, if_part, Item, Spaced, Joined, Plain, item_arguments, item_texts, IsItem, after_items, Give, IsLimit, Spells, AskForNothing, least_limit, store_limit, most_rows, is_option_like}
+use Rattle.db_arguments.specs.Gathering.{Values, Next, Any, Value, Trailing, Stage, nothing_given, with_text, put, stage_by, gather, gathers, all_given}
+use Rattle.db_arguments.specs.Reading.{Wanted, Store, Script, AskFor, number_of, is_number, is_in_range, wanted}
 use Rattle.db_arguments.specs.Promises.{OneReading}
 
--- the limit where the option was given this one, or none, and is given these values
-abbrev pub IsLimitAfter : Option ℕ → List (List ℕ) → ℕ → Type 0
-IsLimitAfter None values limit = IsLimit values limit
-IsLimitAfter (Some given) [] limit = given ≡ limit
-IsLimitAfter (Some given) (value ∷ values) limit = ⊥
+-- ---- numbers
 
--- a value that spells the limit is read as it
-spelt_is_read : (value : List ℕ) (limit : ℕ) → SpellsLimit value limit → limit_of value ≡ Some limit
-spelt_is_read value limit is =
-    let least : least_limit ≤ digits_value 10 value = omega (arith, is.number, is.least) in
-    let greatest : digits_value 10 value ≤ store_limit = omega (arith, is.number, is.greatest) in
-    let number : is_number value ≡ true = and_from _ _ is.digits (and_from _ _ (le-leb _ _ is.not_empty) (le-leb _ _ is.at_most_twenty)) in
-    let fits : is_in_range (digits_value 10 value) ≡ true = and_from _ _ (le-leb _ _ least) (le-leb _ _ greatest) in
-    cond-true _ (Some (digits_value 10 value)) None (and_from _ _ number fits) ∙ ap Some is.number
+-- a value that spells a number is read as it
+pub spelt_is_read : (least greatest : ℕ) (value : List ℕ) (number : ℕ) → Spells least greatest value number → number_of least greatest value ≡ Some number
+spelt_is_read least greatest value number is =
+    let least_is : least ≤ digits_value 10 value = omega (arith, is.is, is.at_least) in
+    let greatest_is : digits_value 10 value ≤ greatest = omega (arith, is.is, is.at_most) in
+    let digits : is_number value ≡ true = and_from _ _ is.digits (and_from _ _ (le-leb _ _ is.not_empty) (le-leb _ _ is.at_most_twenty)) in
+    let fits : is_in_range least greatest (digits_value 10 value) ≡ true = and_from _ _ (le-leb _ _ least_is) (le-leb _ _ greatest_is) in
+    cond-true _ (Some (digits_value 10 value)) None (and_from _ _ digits fits) ∙ ap Some is.is
 
--- the first value is the only one
-first_value : (value : List ℕ) (values : List (List ℕ)) (limit : ℕ) → IsLimit (value ∷ values) limit → (limit_of value ≡ Some limit) × IsLimitAfter (Some limit) values limit
-first_value value [] limit is = (spelt_is_read value limit is, refl)
-first_value value (another ∷ more) limit is = absurd is
+-- a text that looks like no option
+abbrev pub IsValue : List ℕ → Type 0
+IsValue text = is_option_like text ≡ false
 
-no_more_values : (given : Option ℕ) (limit : ℕ) → IsLimitAfter given [] limit → unwrap_or given store_limit ≡ limit
-no_more_values None limit is = sym is
-no_more_values (Some n) limit is = is
+-- digits don't
+digits_are_value : (value : List ℕ) → list_all is_ascii_digit value ≡ true → IsValue value
+digits_are_value [] digits = refl
+digits_are_value (b ∷ []) digits = refl
+digits_are_value (b ∷ c ∷ cs) digits =
+    let first : is_ascii_digit b ≡ true = (and_parts (is_ascii_digit b) (list_all is_ascii_digit (c ∷ cs)) digits).0 in
+    let least : 48 ≤ b = leb-true 48 b (and_parts (nat_le 48 b) (nat_le b 57) first).0 in
+    ne_eqb b 45 (λ same. omega (arith, least, same))
 
-both : (f g : List ℕ) (m n : ℕ) → f ≡ g → m ≡ n → ◌≡◌ {A = Option Asked} (Some (f, m)) (Some (g, n))
-both f g m n e h i = Some (e i, h i)
+-- ---- the texts of each part
 
--- the arguments after a `--`
-others_are_read : (found : Option (List ℕ)) (given : Option ℕ) (others : List (List ℕ)) (file : List ℕ) (limit : ℕ)
-    → option_to_list found ++ others ≡ file ∷ [] → IsLimitAfter given [] limit
-    → outcome (record { file = found; limit = given; next = File }) others ≡ Some (file, limit)
-others_are_read None given [] file limit one is = cc
-others_are_read (Some f) given [] file limit one is = both f file (unwrap_or given store_limit) limit (cc) (no_more_values given limit is)
-others_are_read None given (o ∷ os) file limit one is = others_are_read (Some o) given os file limit one is
-others_are_read (Some f) given (o ∷ os) file limit one is = cc
+-- the other arguments are FILEs
+abbrev pub others_for : Part → Option (List (List ℕ)) → List (List ℕ)
+others_for File others = unwrap_or others []
+others_for Limit others = []
+others_for Rows others = []
 
--- items, and what follows them
-items_are_read : (items : List Item) (others : Option (List (List ℕ))) (found : Option (List ℕ)) (given : Option ℕ) (file : List ℕ) (limit : ℕ)
-    → AllByRecursion IsItem items
-    → option_to_list found ++ (flat_map item_files items ++ unwrap_or others []) ≡ file ∷ []
-    → IsLimitAfter given (flat_map item_values items) limit
-    → outcome (record { file = found; limit = given; next = Any }) (flat_map item_arguments items ++ after_items others) ≡ Some (file, limit)
-items_are_read [] None None given file limit are one is = cc
-items_are_read [] None (Some f) given file limit are one is = both f file (unwrap_or given store_limit) limit (cc) (no_more_values given limit is)
-items_are_read [] (Some others) found given file limit are one is = others_are_read found given others file limit one is
-items_are_read (Plain f ∷ items) others (Some g) given file limit are one is = cc
-items_are_read (Plain f ∷ items) others None given file limit are one is =
-    rw are.0 (items_are_read items others (Some f) given file limit are.1 one is)
-items_are_read (Spaced v ∷ items) others found (Some n) file limit are one is = absurd is
-items_are_read (Spaced v ∷ items) others found None file limit are one is =
-    let first = first_value v (flat_map item_values items) limit is in
-    rw first.0 (items_are_read items others found (Some limit) file limit are.1 one first.1)
-items_are_read (Joined v ∷ items) others found (Some n) file limit are one is = absurd is
-items_are_read (Joined v ∷ items) others found None file limit are one is =
-    let first = first_value v (flat_map item_values items) limit is in
-    rw first.0 (items_are_read items others found (Some limit) file limit are.1 one first.1)
+-- what was given to each part, and what these items and other arguments give to it, are these texts
+abbrev pub Adds : Values → List Item → Option (List (List ℕ)) → (Part → List (List ℕ)) → Type 0
+Adds v items others texts = (part : Part) → option_to_list (v part) ++ (flat_map (item_texts part) items ++ others_for part others) ≡ texts part
 
--- what is asked for is what is read
-pub asked_is_read : (arguments : List (List ℕ)) (file : List ℕ) (limit : ℕ) → AsksFor arguments file limit → outcome start arguments ≡ Some (file, limit)
-asked_is_read arguments file limit asks =
-    ap (outcome start) asks.spelt ∙ items_are_read asks.items asks.others None None file limit asks.are_items asks.one_file asks.limited
+-- no part has two
+abbrev pub AtMostOne : (Part → List (List ℕ)) → Type 0
+AtMostOne texts = (part : Part) → length (texts part) ≤ 1
+
+-- these are the texts that were given
+abbrev pub AreTexts : Values → (Part → List (List ℕ)) → Type 0
+AreTexts v texts = (part : Part) → option_to_list (v part) ≡ texts part
+
+pub record Gathers (v : Values) (next : Next) (arguments : List (List ℕ)) (texts : Part → List (List ℕ)) : Type 0 where
+  pub values : Values
+  pub are : gathers v next arguments ≡ Some values
+  pub have : AreTexts values texts
+
+-- ---- one text more
+
+put_is : (v : Values) (part : Part) (text : List ℕ) → v part ≡ None → put v part text ≡ Some (with_text v part text)
+put_is v part text none = ap (λ (o : Option (List ℕ)). if is_none o then Some (with_text v part text) else None) none
+
+one_only : (given : Option (List ℕ)) (text : List ℕ) (more all : List (List ℕ)) → option_to_list given ++ text ∷ more ≡ all → length all ≤ 1 → given ≡ None
+one_only None text more all is few = refl
+one_only (Some other) text more all is few = let counts : suc (suc (length more)) ≡ length all = ap length is in absurd (omega (arith, counts, few))
+
+module _ (v : Values) (text : List ℕ) (r s texts : Part → List (List ℕ)) where
+  abbrev Before : Part → Type 0
+  Before part = (p : Part) → option_to_list (v p) ++ ((if_part (is_part p part) text ++ r p) ++ s p) ≡ texts p
+
+  abbrev After : Part → Type 0
+  After part = (p : Part) → option_to_list (with_text v part text p) ++ (r p ++ s p) ≡ texts p
+
+  none_before : (part : Part) → Before part → AtMostOne texts → v part ≡ None
+  none_before File h few = one_only (v File) text (r File ++ s File) (texts File) (h File) (few File)
+  none_before Limit h few = one_only (v Limit) text (r Limit ++ s Limit) (texts Limit) (h Limit) (few Limit)
+  none_before Rows h few = one_only (v Rows) text (r Rows ++ s Rows) (texts Rows) (h Rows) (few Rows)
+
+  -- the text is the first one of its part
+  first_text : (part : Part) → Before part → v part ≡ None → text ∷ (r part ++ s part) ≡ texts part
+  first_text File h none = subst (λ (o : Option (List ℕ)). option_to_list o ++ text ∷ (r File ++ s File) ≡ texts File) none (h File)
+  first_text Limit h none = subst (λ (o : Option (List ℕ)). option_to_list o ++ text ∷ (r Limit ++ s Limit) ≡ texts Limit) none (h Limit)
+  first_text Rows h none = subst (λ (o : Option (List ℕ)). option_to_list o ++ text ∷ (r Rows ++ s Rows) ≡ texts Rows) none (h Rows)
+
+  put_after : (part : Part) → Before part → v part ≡ None → After part
+  put_after File h none File = first_text File h none
+  put_after File h none Limit = h Limit
+  put_after File h none Rows = h Rows
+  put_after Limit h none File = h File
+  put_after Limit h none Limit = first_text Limit h none
+  put_after Limit h none Rows = h Rows
+  put_after Rows h none File = h File
+  put_after Rows h none Limit = h Limit
+  put_after Rows h none Rows = first_text Rows h none
+
+-- one argument, and then the others
+one_then : (v : Values) (next : Next) (argument : List ℕ) (others : List (List ℕ)) (s : Stage) → gather v next argument ≡ Some s → gathers v next (argument ∷ others) ≡ gathers s.0 s.1 others
+one_then v next argument others s is = ap (option_and_then (λ (t : Stage). gathers t.0 t.1 others)) is
+
+gathers_then : (v : Values) (next : Next) (argument : List ℕ) (others : List (List ℕ)) (s : Stage) (texts : Part → List (List ℕ))
+    → gather v next argument ≡ Some s → Gathers s.0 s.1 others texts → Gathers v next (argument ∷ others) texts
+gathers_then v next argument others s texts is g = record { values = g.values; are = one_then v next argument others s is ∙ g.are; have = g.have }
+
+file_step : (v : Values) (file : List ℕ) → IsValue file → v File ≡ None → gather v Any file ≡ Some (with_text v File file, Any)
+file_step v file plain none = rw plain (ap (stage_by Any) (put_is v File file none))
+
+value_step : (v : Values) (option : OptionName) (value : List ℕ) → IsValue value → v (part_of option) ≡ None → gather v (Value option) value ≡ Some (with_text v (part_of option) value, Any)
+value_step v option value plain none = rw plain (ap (stage_by Any) (put_is v (part_of option) value none))
+
+trailing_step : (v : Values) (file : List ℕ) → v File ≡ None → gather v Trailing file ≡ Some (with_text v File file, Trailing)
+trailing_step v file none = ap (stage_by Trailing) (put_is v File file none)
+
+option_step : (v : Values) (option : OptionName) → gather v Any (spelling option) ≡ Some (v, Value option)
+option_step v LimitOption = refl
+option_step v GenerateOption = refl
+
+joined_step : (v : Values) (option : OptionName) (value : List ℕ) → v (part_of option) ≡ None → gather v Any (spelling option ++ 61 ∷ value) ≡ Some (with_text v (part_of option) value, Any)
+joined_step v LimitOption value none = ap (stage_by Any) (put_is v Limit value none)
+joined_step v GenerateOption value none = ap (stage_by Any) (put_is v Rows value none)
+
+-- ---- all arguments
+
+-- the values of options look like no option
+abbrev pub HaveValues : (Part → List (List ℕ)) → Type 0
+HaveValues texts = (option : OptionName) → AllByRecursion IsValue (texts (part_of option))
+
+-- FILEs, in a list that is taken element by element
+abbrev each_file : List (List ℕ) → Part → List (List ℕ)
+each_file files File = files
+each_file files Limit = []
+each_file files Rows = []
+
+file_first : (file : List ℕ) (others : List (List ℕ)) (part : Part) → others_for part (Some (file ∷ others)) ≡ (if_part (is_part part File) file ++ others_for part (Some others)) ++ []
+file_first file others File = sym (append-nil (file ∷ others))
+file_first file others Limit = refl
+file_first file others Rows = refl
+
+others_are_read : (others : List (List ℕ)) (v : Values) (texts : Part → List (List ℕ))
+    → ((part : Part) → option_to_list (v part) ++ others_for part (Some others) ≡ texts part) → AtMostOne texts → Gathers v Trailing others texts
+others_are_read [] v texts h few = record { values = v; are = refl; have = nothing_more }
+  where
+    nothing_more : AreTexts v texts
+    nothing_more File = sym (append-nil (option_to_list (v File))) ∙ h File
+    nothing_more Limit = sym (append-nil (option_to_list (v Limit))) ∙ h Limit
+    nothing_more Rows = sym (append-nil (option_to_list (v Rows))) ∙ h Rows
+others_are_read (file ∷ others) v texts h few =
+    let r = λ (p : Part). others_for p (Some others) in
+    let s : Part → List (List ℕ) = λ p. [] in
+    let before : Before v file r s texts File = λ p. ap (λ (x : List (List ℕ)). option_to_list (v p) ++ x) (sym (file_first file others p)) ∙ h p in
+    let none = none_before v file r s texts File before few in
+    let after = put_after v file r s texts File before none in
+    gathers_then v Trailing file others (with_text v File file, Trailing) texts (trailing_step v file none)
+    (others_are_read others (with_text v File file) texts (λ p. ap (λ (x : List (List ℕ)). option_to_list (with_text v File file p) ++ x) (sym (append-nil (r p))) ∙ after p) few)
+
+items_are_read : (items : List Item) (others : Option (List (List ℕ))) (v : Values) (texts : Part → List (List ℕ))
+    → AllByRecursion IsItem items → Adds v items others texts → AtMostOne texts → HaveValues texts
+    → Gathers v Any (flat_map item_arguments items ++ after_items others) texts
+items_are_read [] None v texts are h few values = record { values = v; are = refl; have = nothing_more }
+  where
+    nothing_more : AreTexts v texts
+    nothing_more File = sym (append-nil (option_to_list (v File))) ∙ h File
+    nothing_more Limit = sym (append-nil (option_to_list (v Limit))) ∙ h Limit
+    nothing_more Rows = sym (append-nil (option_to_list (v Rows))) ∙ h Rows
+items_are_read [] (Some others) v texts are h few values =
+    gathers_then v Any (codes "--") others (v, Trailing) texts refl (others_are_read others v texts h few)
+items_are_read (Plain file ∷ items) others v texts are h few values =
+    let r = λ (p : Part). flat_map (item_texts p) items in
+    let s = λ (p : Part). others_for p others in
+    let none = none_before v file r s texts File h few in
+    gathers_then v Any file (flat_map item_arguments items ++ after_items others) (with_text v File file, Any) texts (file_step v file are.0 none)
+    (items_are_read items others (with_text v File file) texts are.1 (put_after v file r s texts File h none) few values)
+items_are_read (Spaced option value ∷ items) others v texts are h few values =
+    let r = λ (p : Part). flat_map (item_texts p) items in
+    let s = λ (p : Part). others_for p others in
+    let none = none_before v value r s texts (part_of option) h few in
+    let plain : IsValue value = (subst (AllByRecursion IsValue) (sym (first_text v value r s texts (part_of option) h none)) (values option)).0 in
+    let rest = flat_map item_arguments items ++ after_items others in
+    gathers_then v Any (spelling option) (value ∷ rest) (v, Value option) texts (option_step v option)
+    (gathers_then v (Value option) value rest (with_text v (part_of option) value, Any) texts (value_step v option value plain none)
+    (items_are_read items others (with_text v (part_of option) value) texts are.1 (put_after v value r s texts (part_of option) h none) few values))
+items_are_read (Joined option value ∷ items) others v texts are h few values =
+    let r = λ (p : Part). flat_map (item_texts p) items in
+    let s = λ (p : Part). others_for p others in
+    let none = none_before v value r s texts (part_of option) h few in
+    gathers_then v Any (spelling option ++ 61 ∷ value) (flat_map item_arguments items ++ after_items others) (with_text v (part_of option) value, Any) texts (joined_step v option value none)
+    (items_are_read items others (with_text v (part_of option) value) texts are.1 (put_after v value r s texts (part_of option) h none) few values)
+
+-- the texts of the three parts
+abbrev pub texts_by : List (List ℕ) → List (List ℕ) → List (List ℕ) → Part → List (List ℕ)
+texts_by files limits rows File = files
+texts_by files limits rows Limit = limits
+texts_by files limits rows Rows = rows
+
+given_adds : (arguments files limits rows : List (List ℕ)) (g : Give arguments files limits rows) → Adds nothing_given g.items g.others (texts_by files limits rows)
+given_adds arguments files limits rows g File = g.files_are
+given_adds arguments files limits rows g Limit = append-nil (flat_map (item_texts Limit) g.items) ∙ g.limits_are
+given_adds arguments files limits rows g Rows = append-nil (flat_map (item_texts Rows) g.items) ∙ g.rows_are
+
+-- what arguments give is read, where no part has two texts, and values of options look like no option
+pub given_is_read : (arguments files limits rows : List (List ℕ)) → Give arguments files limits rows → AtMostOne (texts_by files limits rows) → HaveValues (texts_by files limits rows)
+    → Gathers nothing_given Any arguments (texts_by files limits rows)
+given_is_read arguments files limits rows g few values =
+    let read = items_are_read g.items g.others nothing_given (texts_by files limits rows) g.are_items (given_adds arguments files limits rows g) few values in
+    record { values = read.values; are = ap (gathers nothing_given Any) g.spelt ∙ read.are; have = read.have }
+
+-- ---- what is asked for
+
+-- what is asked for by what was given
+abbrev pub wanted_of : Values → Option Wanted
+wanted_of v = wanted (v File) (v Limit) (v Rows)
+
+-- what arguments ask for is what is read from them
+abbrev pub IsRead : List (List ℕ) → Wanted → Type 0
+IsRead arguments w = option_and_then wanted_of (all_given arguments) ≡ Some w
+
+none_given : (o : Option (List ℕ)) → option_to_list o ≡ [] → o ≡ None
+none_given None is = refl
+none_given (Some text) is = cc
+
+one_given : (o : Option (List ℕ)) (text : List ℕ) → option_to_list o ≡ text ∷ [] → o ≡ Some text
+one_given None text is = cc
+one_given (Some other) text is = cc
+
+read_by : (arguments : List (List ℕ)) (v : Values) (w : Wanted) (file limit rows : Option (List ℕ))
+    → all_given arguments ≡ Some v → v File ≡ file → v Limit ≡ limit → v Rows ≡ rows → wanted file limit rows ≡ Some w → IsRead arguments w
+read_by arguments v w file limit rows are f l r is = ap (option_and_then wanted_of) are ∙ rw (f, l, r) is
+
+-- a store, by the values of the limit
+store_is_read : (arguments : List (List ℕ)) (file : List ℕ) (limits : List (List ℕ)) (limit : ℕ) → Give arguments (file ∷ []) limits [] → IsLimit limits limit → IsRead arguments (Store file limit)
+store_is_read arguments file [] limit g is =
+    let read = given_is_read arguments (file ∷ []) [] [] g few values in
+    read_by arguments read.values (Store file limit) (Some file) None None read.are (one_given _ file (read.have File)) (none_given _ (read.have Limit)) (none_given _ (read.have Rows))
+    (ap (λ (n : ℕ). Some (Store file n)) (sym is))
+  where
+    few : AtMostOne (texts_by (file ∷ []) [] [])
+    few File = omega arith
+    few Limit = omega arith
+    few Rows = omega arith
+
+    values : HaveValues (texts_by (file ∷ []) [] [])
+    values LimitOption = tt
+    values GenerateOption = tt
+store_is_read arguments file (value ∷ []) limit g is =
+    let read = given_is_read arguments (file ∷ []) (value ∷ []) [] g few values in
+    read_by arguments read.values (Store file limit) (Some file) (Some value) None read.are (one_given _ file (read.have File)) (one_given _ value (read.have Limit)) (none_given _ (read.have Rows))
+    (ap (option_map (Store file)) (spelt_is_read least_limit store_limit value limit is))
+  where
+    few : AtMostOne (texts_by (file ∷ []) (value ∷ []) [])
+    few File = omega arith
+    few Limit = omega arith
+    few Rows = omega arith
+
+    values : HaveValues (texts_by (file ∷ []) (value ∷ []) [])
+    values LimitOption = (digits_are_value value is.digits, tt)
+    values GenerateOption = tt
+store_is_read arguments file (value ∷ another ∷ more) limit g is = absurd is
+
+rows_are_read : (arguments : List (List ℕ)) (value : List ℕ) (rows : ℕ) → Give arguments [] [] (value ∷ []) → Spells 1 most_rows value rows → IsRead arguments (Script rows)
+rows_are_read arguments value rows g is =
+    let read = given_is_read arguments [] [] (value ∷ []) g few values in
+    read_by arguments read.values (Script rows) None None (Some value) read.are (none_given _ (read.have File)) (none_given _ (read.have Limit)) (one_given _ value (read.have Rows))
+    (ap (option_map Script) (spelt_is_read 1 most_rows value rows is))
+  where
+    few : AtMostOne (texts_by [] [] (value ∷ []))
+    few File = omega arith
+    few Limit = omega arith
+    few Rows = omega arith
+
+    values : HaveValues (texts_by [] [] (value ∷ []))
+    values LimitOption = tt
+    values GenerateOption = (digits_are_value value is.digits, tt)
+
+pub asked_is_read : (arguments : List (List ℕ)) (w : Wanted) → AskFor arguments w → IsRead arguments w
+asked_is_read arguments (Store file limit) asks = store_is_read arguments file asks.limits limit asks.give asks.limited
+asked_is_read arguments (Script rows) asks = rows_are_read arguments asks.value rows asks.give asks.spells
+
+same_wanted : (arguments : List (List ℕ)) (w u : Wanted) → AskFor arguments w → AskFor arguments u → w ≡ u
+same_wanted arguments w u asks too = let e : ◌≡◌ {A = Option Wanted} (Some w) (Some u) = sym (asked_is_read arguments w asks) ∙ asked_is_read arguments u too in cc
+
+abbrev file_in : Wanted → List ℕ
+file_in (Store file limit) = file
+file_in (Script rows) = []
+
+abbrev number_in : Wanted → ℕ
+number_in (Store file limit) = limit
+number_in (Script rows) = rows
+
+abbrev is_store : Wanted → Bool
+is_store (Store file limit) = true
+is_store (Script rows) = false
 
 pub one_reading : OneReading
-one_reading arguments file another limit other asks too =
-    let e : ◌≡◌ {A = Option Asked} (Some (file, limit)) (Some (another, other)) = sym (asked_is_read arguments file limit asks) ∙ asked_is_read arguments another other too in
-    some_pair_parts file another limit other e
+one_reading = record {
+  one_store = λ arguments file another limit other asks too.
+      let e = same_wanted arguments (Store file limit) (Store another other) asks too in (ap file_in e, ap number_in e);
+  one_number = λ arguments rows others asks too. ap number_in (same_wanted arguments (Script rows) (Script others) asks too);
+  not_both = λ arguments file limit rows asks too. true≢false (ap is_store (same_wanted arguments (Store file limit) (Script rows) asks too));
+}
 
 -- ---- what is refused
 
-pub refused : (arguments : List (List ℕ)) → outcome start arguments ≡ None → AskForNothing arguments
-refused arguments none file limit asks = none-some (file, limit) (sym none ∙ asked_is_read arguments file limit asks)
+pub refused : (arguments : List (List ℕ)) → option_and_then wanted_of (all_given arguments) ≡ None → AskForNothing arguments
+refused arguments none =
+    (λ file limit asks. none-some (Store file limit) (sym none ∙ asked_is_read arguments (Store file limit) asks), λ rows asks. none-some (Script rows) (sym none ∙ asked_is_read arguments (Script rows) asks))
 
 -- computed examples: no FILE, or two of them
 no_file : AskForNothing (codes "--limit=5000" ∷ codes "--" ∷ [])
@@ -90,7 +317,7 @@ no_file = refused _ refl
 two_files : AskForNothing (codes "a" ∷ codes "--" ∷ codes "b" ∷ [])
 two_files = refused _ refl
 
--- another option, the option twice, and the option without a value
+-- another option, an option twice, and an option without a value
 other_option : AskForNothing (codes "--help" ∷ codes "a" ∷ [])
 other_option = refused _ refl
 
@@ -112,3 +339,16 @@ small_limit = refused _ refl
 
 large_limit : AskForNothing (codes "--limit=68719476737" ∷ codes "a" ∷ [])
 large_limit = refused _ refl
+
+-- a number of rows beside a FILE or a limit, and numbers of rows that are too small or too large
+rows_with_file : AskForNothing (codes "--generate=8" ∷ codes "a" ∷ [])
+rows_with_file = refused _ refl
+
+rows_with_limit : AskForNothing (codes "--generate=8" ∷ codes "--limit=5000" ∷ [])
+rows_with_limit = refused _ refl
+
+no_rows : AskForNothing (codes "--generate=0" ∷ [])
+no_rows = refused _ refl
+
+too_many_rows : AskForNothing (codes "--generate" ∷ codes "100001" ∷ [])
+too_many_rows = refused _ refl
