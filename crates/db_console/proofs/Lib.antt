@@ -1,6 +1,7 @@
 pub mod Texts
 pub mod Lasting
 pub mod SayingLaws
+pub mod SayingTo
 pub mod LookLaws
 pub mod WorldLaws
 pub mod Asked
@@ -9,3 +10,5 @@ pub mod Responding
 pub mod ViewLaws
 pub mod TableLaws
 pub mod StoreLaws
+pub mod Hits
+pub mod Generated

@@ -1,6 +1,7 @@
 pub mod Limits
 pub mod Looking
 pub mod Worlds
+pub mod Generating
 pub mod Asking
 pub mod Responses
 pub mod Views

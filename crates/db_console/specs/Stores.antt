@@ -14,8 +14,9 @@ use Rattle.pg_heap.specs.Heaps.{HeapState}
 use Rattle.pg_map.specs.Holding.{Recovers}
 use Rattle.pg_keeper.specs.Loading.{HasNoStore, StaysAs}
 use Rattle.pg_keeper.specs.Paged.{paged_view}
-use Rattle.db_arguments.specs.Arguments.{AsksFor}
+use Rattle.db_arguments.specs.Arguments.{AsksFor, AsksForRows}
 use Rattle.db_state.specs.Shapes.{IsStoreEntry}
+use Rattle.db_console.specs.Generating.{Generates}
 use Rattle.db_console.specs.Limits.{statement_limit, script_limit}
 use Rattle.db_console.specs.Table.{Completes, Outcome, status_of}
 use Rattle.db_console.specs.declared.endings.Ending.{Ending}
@@ -81,6 +82,18 @@ OverStores disk holds = (image : List ℕ) (m : Content) → IsSettled disk imag
 abbrev pub OverForeign : DiskView → (List ℕ → Type 0) → Type 0
 OverForeign disk holds = (image : List ℕ) → IsSettled disk image → HasNoStore IsStoreEntry image → holds image
 
+-- what holds of a run where the arguments of the command ask for a store
+abbrev pub OfStore : List (List ℕ) → Type 0 → Type 0
+OfStore arguments holds = (file : List ℕ) (limit : ℕ) → AsksFor arguments file limit → holds
+
+-- what holds of a run where they ask for a generated script
+abbrev pub OfScript : List (List ℕ) → (ℕ → Type 0) → Type 0
+OfScript arguments holds = (rows : ℕ) → AsksForRows arguments rows → holds rows
+
+-- what was generated and said with this status, by the number of rows that they ask for
+abbrev pub GeneratesBy : List (List ℕ) → DiskView → DiskView → ℕ → Type 0
+GeneratesBy arguments old new status = OfScript arguments (λ rows. Generates rows status old new)
+
 -- what a run did with this status, by the arguments of the command: over each store, and over each file that is none
 abbrev pub RunsBy : List (List ℕ) → DiskView → DiskView → ℕ → Type 0
 RunsBy arguments old new status = OverStores old (λ image m. (file : List ℕ) (limit : ℕ) → AsksFor arguments file limit → RanOver limit image m old new status)
@@ -98,6 +111,10 @@ pub record TellsOfStore (image : List ℕ) (status : ℕ) : Type 0 where
 -- of the image that a read gave, where it is told
 abbrev pub TellsBy : DiskView → ℕ → Type 0
 TellsBy old status = (image : List ℕ) → old.image ≡ Some image → TellsOfStore image status
+
+-- the same, unless there was no memory for the arguments, and this holds, that nothing was done
+abbrev pub TellsUnless : Type 0 → DiskView → ℕ → Type 0
+TellsUnless nothing old status = ((status ≡ 5) × nothing) ⊎ TellsBy old status
 
 -- Without a fault of a device a script that isn't too long is served to its end, unless there is no memory.
 abbrev pub CompletesRun : ℕ → DiskView → DiskView → Type 0

@@ -2,6 +2,7 @@
 #![tactic(auto)]
 
 mod endings;
+mod generating;
 mod responses;
 mod running;
 mod saying;

@@ -1,20 +1,22 @@
 //! A whole run.
 
-ghost use Rattle.std.specs.Prelude.{◌≡◌, ◌<◌, ◌↔◌, ◌⊎◌, ℕ, List, None, length, map};
+ghost use Rattle.std.specs.Prelude.{◌≡◌, ◌≤◌, ◌⊎◌, map};
 ghost use Rattle.std.specs.String.{string_bytes};
-ghost use Rattle.ct_keep.specs.Content.{Content};
 ghost use Rattle.db_state.specs.Shapes.{AcceptsStatements, IsStoreEntry};
 ghost use Rattle.pg_keeper.specs.Paged.{IsUsable};
 ghost use Rattle.db_arguments.specs.Arguments.{AskForNothing};
 ghost use Rattle.db_console.specs.Views.{DiskRose};
+ghost use Rattle.db_console.specs.Generating.{Generates};
 ghost use Rattle.db_console.specs.Limits.{script_limit, statement_limit};
-ghost use Rattle.db_console.specs.Stores.{CompletesRun, FailsToLoad, OverForeign, OverStores, RanOver, RefusesBy, RunsBy, ServesHeap, SiteFaultsBy, TellsBy, status_of_load};
+ghost use Rattle.db_console.specs.Stores.{CompletesRun, FailsToLoad, GeneratesBy, OfScript, OfStore, OverForeign, OverStores, RanOver, RefusesBy, RunsBy, ServesHeap, SiteFaultsBy, TellsBy, TellsUnless, status_of_load};
 ghost use Rattle.db_console.specs.Table.{Completes, FaultsBy, ServedWith, TellsPast};
 
+use crate::generating::generate;
+use crate::saying::say_to;
 use crate::serving::serve_script;
 use ct_keep::Keeper;
 use ct_site::Site;
-use db_arguments::read_arguments;
+use db_arguments::{Asked, read_arguments};
 use db_engine::StoreShape;
 use pg_heap::Heap;
 use pg_journal::LoadFault;
@@ -29,10 +31,16 @@ pub const STATEMENT_LIMIT: usize = 65_536;
 pub const SCRIPT_LIMIT: u64 = 1 << 40;
 
 /// How many threads are at work on a statement at most.
-const DEGREE: u32 = 1;
+pub(crate) const DEGREE: u32 = 1;
 
-/// The status where the arguments of the command aren't of its form.
+/// The status where the arguments of the command are of none of its forms.
 const NOT_OF_THE_FORM: u8 = 2;
+
+/// The status where standard output failed.
+const NOT_SAID: u8 = 4;
+
+/// The status where there was no memory.
+const NO_MEMORY: u8 = 5;
 
 /// Serves a script of at most `most` bytes over a keeper, and gives the status (docs/ERRORS.md). At most `degree` threads are at
 /// work on a statement. After the status 6 the keeper may only hear and say. Its cost is that of the statements.
@@ -107,9 +115,27 @@ fn serve_store<R: Threads + Sync, S: Site>(rt: &R, alloc: Global, limit: u64, si
     serve_heap(rt, alloc, limit, heap, site)
 }
 
-/// Runs the script that the site gives over the store that its disk has, and gives the status of the program (docs/ERRORS.md). The
-/// arguments of the command tell how much the content of the store may weigh; the site has the disk of the FILE that they name. Its
-/// first call is a sync of that disk. Its cost is that of reading the store and of the statements.
+/// Says the script for so many rows, which is run over an empty store in memory, and the line that sums up that run. All memory is taken
+/// before the first byte is said.
+fn say_generated<R: Threads + Sync, S: Site>(rt: &R, alloc: Global, rows: u32, site: &mut S) -> u8
+    requires some { 1 ≤ rows }
+    requires few { rows ≤ 100000 }
+    ensures script { Generates rows result (S.disk site.old) (S.disk site.new) }
+    ensures unsaid { result ≡ 5 → site.new ≡ site.old }
+{
+    let Ok(bytes) = generate(rt, alloc, rows) else {
+        return NO_MEMORY;
+    };
+    match say_to(site, &bytes) {
+        Ok(()) => 0,
+        Err(_) => NOT_SAID,
+    }
+}
+
+/// Runs the script that the site gives over the store that its disk has, or a script that is generated, and gives the status of the program
+/// (docs/ERRORS.md). The arguments of the command tell which of these, and how much the content of the store may weigh; the site has the
+/// disk of the FILE that they name. Over a store its first call is a sync of that disk; of a generated script it says the bytes alone.
+/// Its cost is that of reading the store and of the statements.
 pub fn run<R: Threads + Sync, S: Site>(
     rt: &R,
     alloc: Global,
@@ -118,14 +144,20 @@ pub fn run<R: Threads + Sync, S: Site>(
 ) -> u8
 
     // arguments
-    ensures form { (result ≡ 2) ↔ AskForNothing (map string_bytes arguments.now) }
+    ensures form { result ≡ 2 → AskForNothing (map string_bytes arguments.now) }
+    ensures refused { AskForNothing (map string_bytes arguments.now) → (result ≡ 2) ⊎ (result ≡ 5) }
     ensures no_call { result ≡ 2 → site.new ≡ site.old }
 
     // the table of statuses, from the state that the store stands for
     ensures table { RunsBy (map string_bytes arguments.now) (S.disk site.old) (S.disk site.new) result }
     // a file that is no store is refused
     ensures foreign { RefusesBy (map string_bytes arguments.now) (S.disk site.old) (S.disk site.new) result }
-    ensures stores { (result ≡ 2 → ⊥) → TellsBy (S.disk site.old) result }
+    // what the status tells of the file, unless there was no memory for the arguments
+    ensures stores { OfStore (map string_bytes arguments.now) (TellsUnless (site.new ≡ site.old) (S.disk site.old) result) }
+
+    // a script that is generated
+    ensures script { GeneratesBy (map string_bytes arguments.now) (S.disk site.old) (S.disk site.new) result }
+    ensures unsaid { OfScript (map string_bytes arguments.now) (λ rows. result ≡ 5 → site.new ≡ site.old) }
 
     // causes
     ensures faults { SiteFaultsBy result (S.disk site.old) (S.disk site.new) }
@@ -133,8 +165,14 @@ pub fn run<R: Threads + Sync, S: Site>(
     ensures past { (result ≡ 2 → ⊥) → TellsPast script_limit result (S.disk site.old).beside (S.disk site.new).beside }
     ensures complete { (result ≡ 2 → ⊥) → OverStores (S.disk site.old) (λ image m. CompletesRun result (S.disk site.old) (S.disk site.new)) }
 {
-    let Some(asked) = read_arguments(arguments) else {
+    let Ok(read) = read_arguments(alloc, arguments) else {
+        return NO_MEMORY;
+    };
+    let Some(asked) = read else {
         return NOT_OF_THE_FORM;
     };
-    serve_store(rt, alloc, asked.limit, site)
+    match asked {
+        Asked::Over(store) => serve_store(rt, alloc, store.limit, site),
+        Asked::Rows(rows) => say_generated(rt, alloc, rows, site),
+    }
 }

@@ -1,10 +1,11 @@
 //! Saying replies.
 
-ghost use Rattle.std.specs.Prelude.{false, ◌≡◌, ◌≤◌, ◌<◌, ◌+◌, OnOk, OnErr, IfErr, length, take, drop};
+ghost use Rattle.std.specs.Prelude.{false, ◌≡◌, OnOk, OnErr, IfErr};
+ghost use Rattle.db_console.specs.Generating.{SaysTo, SaysToInPart};
 ghost use Rattle.db_console.specs.Views.{Spoke, SpokeInPart};
 
 use ct_keep::Keeper;
-use ct_site::Failed;
+use ct_site::{Failed, Site};
 
 /// Why the answer to a piece of a script broke off.
 #[derive(Debug, Drop)]
@@ -36,4 +37,16 @@ pub fn say_reply<K: Keeper>(keeper: &mut K, reply: &[u8]) -> Result<(), AnswerFa
         Ok(()) => Ok(()),
         Err(_) => Err(AnswerFault::Say),
     }
+}
+
+/// Says all the bytes to a site, by as many calls as it takes.
+pub(crate) fn say_to<S: Site>(site: &mut S, bytes: &[u8]) -> Result<(), Failed>
+    ensures all { OnOk result (SaysTo false bytes.now (S.disk site.old) (S.disk site.new)) }
+    ensures part { OnErr result (SaysToInPart bytes.now (S.disk site.old) (S.disk site.new)) }
+{
+    let mut at = 0;
+    while at < bytes.len() {
+        at += site.say(&bytes[at..])?;
+    }
+    Ok(())
 }

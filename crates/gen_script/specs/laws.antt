@@ -1,2 +1,4 @@
 -- Laws of scripts.
+pub mod Hits
+pub mod Occurring
 pub mod Scripts
