@@ -20,7 +20,9 @@ from model import STATEMENT_LIMIT, answer
 from preferences import ATTRIBUTES, FLAGS, SET_LIMIT, SETS, SINGLES, WITHOUT_EFFECT
 from procedures import FIELD_LIMIT, LIST_LIMIT, STOPWORD_LIMIT, STOPWORD_SIZE, SUB_INDEX_LIMIT, TAG_LIMIT, ZONE_LIMIT
 from query_maker import QueryMaker
-from state import Column, Index, Kind, State, SubIndexes, Table, Value
+from reduction import Flat, Takes, terms_in
+from rules import Faulty
+from state import TEXT_LIMIT, Column, Index, Kind, State, SubIndexes, Table, Value
 from statements import COLUMN_LIMIT, INDEX_LIMIT, PARAMETERS, PARAMETERS_OF, TABLE_LIMIT
 from texts import WHITE_SPACE, ascii_lower, ascii_upper, is_word, tokens
 from thesauri import EXPANSION_LIMIT, RELATIONS, Pair
@@ -38,6 +40,7 @@ from vocabulary import (
     JOINS,
     LOOKS_LIKE,
     NO_COLUMNS,
+    NO_DESCRIPTORS,
     NO_JOINS,
     NO_NAMES,
     NO_STATEMENTS,
@@ -48,12 +51,14 @@ from vocabulary import (
     PARAMETER_WORDS,
     PREFERENCES,
     QUERY_WORDS,
+    RULE_COLUMN,
     SECTIONS,
     SENTENCE_ENDS,
     STOPLISTS,
     STOPWORDS,
     STRANGE_NAMES,
     STRAY,
+    STRAY_IN_DESCRIPTORS,
     TABLES,
     TAGS,
     TERMS,
@@ -258,10 +263,57 @@ class Maker:
     def value_of_row(self, table: Table, column: Column) -> str:
         """Returns a value for a row, at times one that another row has, if it is short; so some rows come in order of their keys alone."""
         place = table.place(column.name)
+        index = self.rules_on(table, place)
+        if column.is_text and self.chance(0.85 if index is not None or column.name == RULE_COLUMN else 0.02) and not self.goes_wrong():
+            return quoted(self.rule(index, column.size if isinstance(column.size, int) else 0))
         if place and table.rows and self.chance(0.3) and not self.goes_wrong():
             value = literal(self.random.choice(list(table.rows.values()))[place])
             return value if len(value) < 30 else self.value(column)
         return self.value(column)
+
+    def rules_on(self, table: Table, place: int | None) -> Index | None:
+        """Returns the index of rules on a column of a table, where there is one."""
+        name = next((name for name, it in self.state.tables.items() if it is table), "")
+        return self.state.index_on(name, place, "CTXRULE")
+
+    def rule(self, index: Index | None, size: int) -> str:
+        """Returns a rule of at most so many bytes, most of the time one that can be taken; its words come in many texts."""
+        way = self.random.choices(["query", "single", "word", "fault", "long"], [70, 10, 10, 8, 2])[0]
+        if way == "fault":
+            return self.query([], index)[:size]
+        if way == "long":
+            many = "|".join(["quick"] * min(size // 6, self.random.choice([512, 513])))
+            return self.one_of([fitted(self.word(), size), many, "(" * min(size, 33), fitted("{", size)])
+        for _ in range(5):
+            maker = self.query_maker([], index)
+            text = self.word() if way == "word" else maker.single() if way == "single" else maker.text()
+            if len(text.encode()) <= size:
+                return text
+        return self.one_of(["quick", "a", ""])[:size]
+
+    def words_of_rule(self, rule: Flat) -> list[str]:
+        """Returns words that the phrases of a rule take, in the order of the rule, with others in the place of those that may be any."""
+        words = []
+        for term in terms_in(rule):
+            for slot in self.random.choice(term.phrases):
+                keys = sorted(slot.keys) if isinstance(slot, Takes) else []
+                words.append(self.spelt_otherwise(self.one_of(keys)) if keys else self.word())
+        return words
+
+    def matched_text(self, index: Index | None) -> str:
+        """Returns a text for MATCHES, often with the words of one or two rules."""
+        rules = [rule for rule in (() if index is None else index.rules.values()) if rule is not None and not isinstance(rule, Faulty)]
+        if not rules or self.chance(0.3):
+            return self.text_for(TEXT_LIMIT)
+        words = [word for rule in self.random.choices(rules, k=self.random.choice([1, 1, 2])) for word in self.words_of_rule(rule)]
+        words = words[: self.random.choice([1, 5, 30])]
+        for _ in range(self.random.choice([0, 0, 1, 3])):
+            words.insert(self.random.randrange(len(words) + 1), self.word())
+        has_tags = self.chance(0.3)
+        begin, end = (self.tag() if has_tags and self.chance(0.5) else "" for _ in range(2))
+        betweens = (" " if self.chance(0.7) else self.between(has_tags) for _ in words)
+        text = begin + "".join(word + between for word, between in zip(words, betweens)) + end
+        return text if len(text.encode()) <= TEXT_LIMIT else self.word()
 
     def searched_word(self, texts: Sequence[str], index: Index | None) -> str:
         """Returns a word to be searched for, often one of these texts or a stopword."""
@@ -326,6 +378,12 @@ class Maker:
         columns = [["id", "NUMBER", "PRIMARY", "KEY"], *([name, *sort.split()] for name, sort in zip(names, sorts))]
         return ["CREATE", "TABLE", self.new(self.state.tables, TABLES), *self.listed(columns)]
 
+    def create_table_for_rules(self) -> list[str]:
+        """Makes a table with a column of rules, and others."""
+        columns = [[RULE_COLUMN, *self.one_of(["VARCHAR2 ( 4000 )", "VARCHAR2 ( 300 )", "CLOB"]).split()], ["price", "NUMBER"]]
+        self.random.shuffle(columns)
+        return ["CREATE", "TABLE", self.new(self.state.tables, TABLES), *self.listed([["id", "NUMBER", "PRIMARY", "KEY"], *columns])]
+
     def columns_of_table(self, count: int) -> list[str]:
         others = [name for name in COLUMNS if name != "id"]
         self.random.shuffle(others)
@@ -367,16 +425,22 @@ class Maker:
     def create_catalogue(self) -> list[str]:
         return self.create_index_of("CTXCAT")
 
+    def create_rules(self) -> list[str]:
+        return self.create_index_of("CTXRULE")
+
     def index_kinds(self) -> list[Kind]:
-        return ["CONTEXT", "CONTEXT", "CTXCAT"] if "CATALOGUES" in self.built else ["CONTEXT"]
+        kinds: list[Kind] = ["CONTEXT", "CONTEXT"]
+        return [*kinds, *(["CTXCAT"] if "CATALOGUES" in self.built else []), *(["CTXRULE"] if "RULES" in self.built else [])]
 
     def create_index_of(self, kind: Kind) -> list[str]:
         name, table = self.table()
         free = [it for it in self.state.tables if self.free_columns(it, kind)]
+        with_rules = [it for it in free if any(column.name == RULE_COLUMN for column in self.free_columns(it, kind))]
         if free and not self.goes_wrong():
-            name = self.one_of(free)
+            name = self.one_of(with_rules if with_rules and kind == "CTXRULE" else free)
             table = self.state.tables[name]
-        column = self.column(table, lambda it: it in self.free_columns(name, kind))
+        is_on_rules = kind == "CTXRULE" and name in with_rules
+        column = self.column(table, lambda it: it in self.free_columns(name, kind) and (it.name == RULE_COLUMN or not is_on_rules))
         index = self.new(self.state.indexes, INDEXES)
         owner = ["CTXSYS", "."] if self.chance(0.7) else []
         has_parameters = self.chance(0.9 if kind == "CTXCAT" else 0.75)
@@ -544,6 +608,67 @@ class Maker:
         self.random.shuffle(conditions)
         return ["SELECT", *self.shown(table, None), "FROM", name, *self.joined("WHERE", conditions), *self.ordered(table, None)]
 
+    def select_matching(self) -> list[str]:
+        """Returns a SELECT with MATCHES over rules, where there are some, most of the time with a document that has their words."""
+        indexes = [index for index in self.state.indexes.values() if index.kind == "CTXRULE" or self.chance(0.05)]
+        if not indexes or self.goes_wrong():
+            (name, table), index = self.table(), None
+            column = self.column(table)
+        else:
+            index = self.random.choice(indexes)
+            name, table = index.table, self.state.tables[index.table]
+            column = table.columns[index.place]
+        document = fitted(self.text(), TEXT_LIMIT + 1) if self.goes_wrong() and self.chance(0.3) else self.matched_text(index)
+        above = self.one_of(["1", "-0", *BEYOND]) if self.goes_wrong() else self.one_of(["0"] * 20 + ["00"])
+        matches = ["MATCHES", "(", column.name, ",", quoted(document), ")", ">", above]
+        conditions = [matches, *([self.condition(table)] if self.chance(0.15) else [])]
+        self.random.shuffle(conditions)
+        return ["SELECT", *self.shown(table, None), "FROM", name, *self.joined("WHERE", conditions), *self.ordered(table, None)]
+
+    def result_set(self) -> list[str]:
+        """Asks for a result set of an index, where there is one, most of the time of words of its rows."""
+        names = [name for name, index in self.state.indexes.items() if index.kind == "CONTEXT" or self.chance(0.1)]
+        name = self.known(names, INDEXES)
+        index = self.state.indexes.get(name)
+        table = self.state.tables[index.table] if index is not None else self.table()[1]
+        texts = [str(row[index.place]) for row in table.rows.values()] if index is not None else []
+        query = self.searched_word(texts, index) if self.chance(0.5) else self.query(texts, index)
+        return self.call("CTX_QUERY", "RESULT_SET", [self.named(name), quoted(query), quoted(self.descriptor(table))])
+
+    def descriptor(self, table: Table) -> str:
+        """Returns a descriptor of columns of a table, most of the time of such as it may name."""
+        if self.goes_wrong() and self.chance(0.5):
+            return self.one_of(NO_DESCRIPTORS)
+        parts = [self.part_of_descriptor(table) for _ in range(self.random.choice([1, 1, 2, 3, 3, 8]))]
+        lexemes = [lexeme for part in parts for lexeme in ("/", *part)][1:]
+        if self.goes_wrong():
+            at = self.random.randrange(len(lexemes) + 1)
+            lexemes[at : at + self.random.choice([0, 1])] = [self.one_of(STRAY_IN_DESCRIPTORS)]
+        text = ""
+        for before, lexeme in zip(["", *lexemes], lexemes):
+            is_needed = is_of_name(before[-1:]) and is_of_name(lexeme[:1])
+            text += (self.one_of([" ", " ", *WHITE_SPACE]) if is_needed or self.chance(0.3) else "") + self.cased(lexeme)
+        return text
+
+    def part_of_descriptor(self, table: Table) -> list[str]:
+        way = self.one_of(["count", "hits", "hits", "group"])
+        if way == "count":
+            return ["count"]
+        columns = [column.name for column in table.columns if column.sort != "CLOB"]
+        if way == "group":
+            return ["group", self.column(table).name if self.goes_wrong() else self.one_of(columns)]
+        first, last = self.random.choice([("1", "2"), ("1", "100000"), ("2", "3"), ("1", "1"), ("001", "10"), ("3", "99")])
+        if self.goes_wrong():
+            first, last = self.random.choice([("0", "2"), ("2", "1"), ("1", "100001"), ("1", self.one_of(BEYOND)), ("0", "0")])
+        hits = ["hits", first, "to", last]
+        if self.chance(0.3):
+            return hits
+        keys: list[str] = []
+        for _ in range(self.random.choice([1, 1, 2, 3])):
+            name = self.column(table).name if self.goes_wrong() else self.one_of(columns)
+            keys += [",", "score" if self.chance(0.4) else name, *self.one_of(["", "", "asc", "desc", "desc"]).split()]
+        return [*hits, "order", "by", *keys[1:]]
+
     def ordered(self, table: Table, label: str | None) -> list[str]:
         """Returns the order of a SELECT, if any: by one to three columns, which seldom are CLOBs, or by the score of this label."""
         if not self.chance(0.3):
@@ -604,7 +729,9 @@ class Maker:
         shown = self.one_of(["id", "SCORE ( 1 )", "nope"] if self.goes_wrong() else ["*", "*", "COUNT ( * )"]).split()
         where = ["WHERE", "id", "=", "1"] if self.goes_wrong() else []
         order = ["ORDER", "BY", "id"] if self.goes_wrong() else []
-        return ["SELECT", *shown, "FROM", "CTX_USER_PENDING", *where, *order]
+        has_rules = any(index.kind == "CTXRULE" for index in self.state.indexes.values())
+        view = "CTX_USER_INDEX_ERRORS" if self.chance(0.6 if has_rules else 0.1) else "CTX_USER_PENDING"
+        return ["SELECT", *shown, "FROM", self.cased(view), *where, *order]
 
     def call(self, package: str, procedure: str, arguments: list[str]) -> list[str]:
         if self.goes_wrong():
@@ -775,7 +902,7 @@ class Maker:
         return self.run_of_words(texts, index)
 
     def sync(self) -> list[str]:
-        indexes = [name for name, index in self.state.indexes.items() if index.kind == "CONTEXT" or self.chance(0.2)]
+        indexes = [name for name, index in self.state.indexes.items() if index.kind != "CTXCAT" or self.chance(0.2)]
         first = self.named(self.known(indexes, INDEXES))
         wrong_memories = ["'M'", "'16 M'", "'16MB'", "'-1K'", "'١K'", "''", "'16'", "16"]
         memory = self.one_of(wrong_memories if self.goes_wrong() else ["'16M'", "'0k'", "'007G'"])
@@ -800,8 +927,9 @@ class Maker:
         if self.chance(0.3):
             return []
         several = self.random.choice
-        has_catalogue = "CATALOGUES" in self.built and self.chance(0.5)
-        kinds = [self.create_table_for_catalogue if has_catalogue and self.chance(0.7) else self.create_table]
+        has_rules = "RULES" in self.built and self.chance(0.3)
+        has_catalogue = "CATALOGUES" in self.built and not has_rules and self.chance(0.5)
+        kinds = [self.create_table_for_rules if has_rules else self.create_table_for_catalogue if has_catalogue and self.chance(0.7) else self.create_table]
         if self.chance(0.7):
             kinds += [self.create_preference, *[self.set_attribute] * several([1, 2, 3, 5])]
         if self.chance(0.6):
@@ -813,6 +941,10 @@ class Maker:
             relations = [self.create_thesaurus, *[self.create_relation] * several([4, 8, 16])]
             relations += [*[self.insert] * 4, self.sync, *[self.select_by_one] * 5]
         rows = [self.insert] * several([1, 2, 4])
+        if has_rules:
+            rules = [self.insert] * several([2, 4, 7])
+            kinds += relations[:-10] + several([[*rules, self.create_rules], [self.create_rules, *rules, self.sync]])
+            return [*kinds, self.view, *[self.select_matching] * several([3, 5, 8])]
         if has_catalogue:
             if self.chance(0.85):
                 kinds += [self.create_index_set, *[self.add_index] * several([1, 1, 2, 3])]
@@ -835,7 +967,9 @@ class Maker:
             return make() if has_catalogue else self.create_catalogue()
         tables, searched = self.state.tables, [it for it in self.state.indexes.values() if it.kind == "CONTEXT"]
         catalogues = [it for it in self.state.indexes.values() if it.kind == "CTXCAT" and "CATSEARCH" in self.built]
+        rules = [it for it in self.state.indexes.values() if it.kind == "CTXRULE" and "MATCHES" in self.built]
         shows = [*[self.select, self.select, self.view] * bool(searched), *[self.select_in_catalogue] * 2 * bool(catalogues)]
+        shows += [self.select_matching, self.select_matching, self.view] * bool(rules)
         if self.has_changed and shows and self.chance(0.5):
             return self.random.choice(shows)()
         rows = sum(len(table.rows) for table in tables.values())
@@ -852,7 +986,7 @@ class Maker:
             (self.add_stopword, 5 if stoplists else 1),
             (self.create_group, 2 if groups else 4),
             (self.add_section, 9 if groups else 1),
-            (self.sync, 12 if searched else 1),
+            (self.sync, 12 if searched or rules else 1),
             (self.select, 25 if searched else 2),
             (self.plain_select, 7),
             (self.view, 4),
@@ -872,6 +1006,10 @@ class Maker:
             kinds.append((self.select_by_one, 14))
         if "CATSEARCH" in self.built:
             kinds.append((self.select_in_catalogue, 25 if catalogues else 1))
+        if "MATCHES" in self.built:
+            kinds.append((self.select_matching, 25 if rules else 1))
+        if "RESULT_SET" in self.built:
+            kinds.append((self.result_set, 14 if searched else 1))
         makes, weights = zip(*kinds)
         return self.random.choices(makes, weights)[0]()
 
@@ -949,7 +1087,7 @@ class Maker:
     def many_indexes(self) -> list[str]:
         """Returns statements that make so many indexes on a table as it may have, of both kinds, and one more."""
         columns = [f"c{i}" for i in range(1, COLUMN_LIMIT)]
-        places = [(column, kind) for column in columns for kind in ("CONTEXT", "CTXCAT")]
+        places = [(column, kind) for column in columns for kind in ("CONTEXT", "CTXCAT", *(["CTXRULE"] if "RULES" in self.built else []))]
         chosen = self.random.sample(places, INDEX_LIMIT + 1)
         table = ", ".join(["id NUMBER PRIMARY KEY", *(f"{column} VARCHAR2(100)" for column in columns)])
         indexes = [f"CREATE INDEX many{i} ON many({column}) INDEXTYPE IS {kind}" for i, (column, kind) in enumerate(chosen)]

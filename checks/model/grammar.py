@@ -23,6 +23,7 @@ from procedures import (
     CreateStoplist,
     CreateThesaurus,
     PolicyTokens,
+    ResultSet,
     SetAttribute,
     SyncIndex,
 )
@@ -40,12 +41,13 @@ from statements import (
     DropTable,
     Insert,
     Item,
+    Matches,
     OrderItem,
     Score,
     Search,
     Select,
     SelectList,
-    SelectPending,
+    SelectView,
     Statement,
     Update,
 )
@@ -66,6 +68,7 @@ PROCEDURES: dict[tuple[str, str], tuple[str | None, type[Call]]] = {
     ("ctx_thes", "create_thesaurus"): ("THESAURI", CreateThesaurus),
     ("ctx_thes", "create_relation"): ("THESAURI", CreateRelation),
     ("ctx_doc", "policy_tokens"): (None, PolicyTokens),
+    ("ctx_query", "result_set"): ("RESULT_SET", ResultSet),
 }
 
 Parsed = TypeVar("Parsed")
@@ -173,6 +176,9 @@ class Parser:
         if self.takes("CTXCAT"):
             self.need("CATALOGUES")
             return "CTXCAT"
+        if self.takes("CTXRULE"):
+            self.need("RULES")
+            return "CTXRULE"
         self.expect("CONTEXT")
         return "CONTEXT"
 
@@ -254,7 +260,7 @@ class Parser:
             raise NotUnderstood
         if table in VIEWS:
             self.need(table.upper())
-            return SelectPending(items, bool(predicates or orders))
+            return SelectView(items, bool(predicates or orders), table == "ctx_user_index_errors")
         if queries == 0:
             self.need("PLAIN-SELECT")
         return Select(items, table, predicates, orders)
@@ -292,6 +298,9 @@ class Parser:
         if self.takes("CATSEARCH"):
             self.need("CATSEARCH")
             return self.catsearch()
+        if self.takes("MATCHES"):
+            self.need("MATCHES")
+            return self.matches()
         self.need("CONDITIONS")
         return self.condition()
 
@@ -315,6 +324,16 @@ class Parser:
         if self.number() != 0:
             raise NotUnderstood
         return Catsearch(column, query, structured)
+
+    def matches(self) -> Matches:
+        self.expect("(")
+        column = self.name()
+        self.expect(",")
+        document = self.value_of("text")
+        self.expect(")", ">")
+        if self.number() != 0:
+            raise NotUnderstood
+        return Matches(column, document)
 
     def call(self) -> Statement:
         package = self.name()

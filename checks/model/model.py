@@ -38,6 +38,7 @@ BUILT = frozenset({
     "COUNT",  # SELECT COUNT(*)
     "ORDER BY",  # the order of a SELECT
     "CTX_USER_PENDING",
+    "CTX_USER_INDEX_ERRORS",
     "PREFERENCES",  # CREATE_PREFERENCE, SET_ATTRIBUTE, and POLICY_TOKENS with a preference
     "STOPLISTS",  # CREATE_STOPLIST, ADD_STOPWORD
     "SECTION-GROUPS",  # CREATE_SECTION_GROUP, ADD_ZONE_SECTION, ADD_FIELD_SECTION, ADD_SPECIAL_SECTION
@@ -45,6 +46,9 @@ BUILT = frozenset({
     "PARAMETERS",  # PARAMETERS of a CREATE INDEX
     "CATALOGUES",  # CREATE INDEX of the kind CTXCAT
     "CATSEARCH",
+    "RULES",  # CREATE INDEX of the kind CTXRULE
+    "MATCHES",
+    "RESULT_SET",
     "OPERATORS",  # queries of several words, weights and thresholds
     "PHRASES",
     "NEAR",

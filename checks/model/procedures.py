@@ -8,23 +8,32 @@ from collections.abc import Container, Mapping
 from dataclasses import dataclass, replace
 from typing import ClassVar
 
+from descriptors import Count, Hits, Part, read_descriptor
 from documents import Group, SectionKind
 from lexemes import Beyond, is_name
 from preferences import lexer_options, takes
-from state import TEXT_LIMIT, State
+from state import TEXT_LIMIT, State, Table
 from statements import (
     BAD_VALUE,
     LIMIT_REACHED,
     NO_INDEX,
+    OUT_OF_RANGE,
     TOO_LONG_VALUE,
+    WAITING_KINDS,
     WRONG_VALUES,
+    Contains,
+    OrderItem,
     Refusals,
+    Score,
+    Scored,
     Statement,
     exists,
     line,
     lines_or_none,
+    ordered_rows,
     printed,
     unknown,
+    unknown_columns,
 )
 from texts import DEFAULT_OPTIONS, WHITE_SPACE, ascii_lower, ascii_upper, tokens
 from thesauri import PAIR_LIMIT, Pair, has, pair_of, term_of
@@ -346,12 +355,12 @@ class CreateRelation(Call):
 
 
 class SyncIndex(Call):
-    """Takes the rows that wait into an index of the kind CONTEXT. No row waits in a catalogue, which is refused."""
+    """Takes the rows that wait into an index of the kind CONTEXT or CTXRULE. No row waits in a catalogue, which is refused."""
 
     def refusals(self, state: State) -> Refusals:
         yield from self.unknown_name(0, state.indexes)
         index = state.indexes.get(self.name(0) or "")
-        if index is not None and index.kind != "CONTEXT":
+        if index is not None and index.kind not in WAITING_KINDS:
             yield NO_INDEX
         if not self.has_texts(1, 2):
             yield WRONG_VALUES
@@ -359,7 +368,7 @@ class SyncIndex(Call):
             yield BAD_VALUE
 
     def effect(self, state: State) -> str:
-        state.indexes[self.name(0) or ""].pending.clear()
+        state.synchronise(state.indexes[self.name(0) or ""])
         return DONE
 
 
@@ -389,3 +398,59 @@ class PolicyTokens(Call):
         options = lexer_options(state.preferences[self.name(0) or ""]) if self.has_preference else DEFAULT_OPTIONS
         found = tokens(str(self.arguments[-1]), options)
         return lines_or_none([line([token.key, token.start, token.end - token.start]) for token in found])
+
+
+class ResultSet(Call):
+    """Shows what a descriptor asks for of the rows that a query of an index finds: how many there are, some of them, or how many by a value."""
+
+    takes_room = False
+
+    @property
+    def parts(self) -> list[Part] | None:
+        """Returns the parts of the descriptor, where it is of its form."""
+        text = self.text(2)
+        return None if text is None else read_descriptor(text)
+
+    def columns(self) -> list[str]:
+        """Returns the columns that the descriptor names, in the order of its text."""
+        return [column for part in self.parts or () for column in part.columns]
+
+    def refusals(self, state: State) -> Refusals:
+        yield from self.unknown_name(0, state.indexes)
+        index = state.indexes.get(self.name(0) or "")
+        if index is not None:
+            table = state.tables[index.table]
+            yield from unknown_columns(table, self.columns())
+            if index.kind != "CONTEXT":
+                yield NO_INDEX
+            if any(column.sort == "CLOB" for column in table.columns if column.name in self.columns()):
+                yield WRONG_VALUES
+        if not self.has_texts(3):
+            yield WRONG_VALUES
+            return
+        if self.name(0) is None or self.parts is None:
+            yield BAD_VALUE
+        if any(part.is_out_of_range for part in self.parts or () if isinstance(part, Hits)):
+            yield OUT_OF_RANGE
+        if index is not None:
+            yield from self.contains().refusals(state, index)
+
+    def contains(self) -> Contains:
+        return Contains("", self.text(1) or "", None, 0, frozenset())
+
+    def lines(self, part: Part, table: Table, found: list[Scored]) -> list[str]:
+        """Returns what a part shows of all rows that are found, which come in order of key."""
+        if isinstance(part, Count):
+            return [f"count={len(found)}\n"]
+        if isinstance(part, Hits):
+            keys = [OrderItem(key.column or Score(1), key.is_descending) for key in part.keys]
+            chosen = ordered_rows(table, found, keys)[part.first - 1 : part.last]
+            return [line(["hit", key, score]) for key, score in chosen]
+        place = table.names.index(part.column)
+        values = [table.rows[key][place] for key, _ in found]
+        return [line(["group", value, values.count(value)]) for value in sorted(set(values))]
+
+    def effect(self, state: State) -> str:
+        index = state.indexes[self.name(0) or ""]
+        found = self.contains().found(state, index)
+        return lines_or_none([it for part in self.parts or () for it in self.lines(part, state.tables[index.table], found)])

@@ -4,6 +4,7 @@ from __future__ import annotations
 
 from collections.abc import Iterable, Iterator, Mapping
 from dataclasses import dataclass, field
+from functools import lru_cache
 from typing import Literal
 
 import queries
@@ -177,10 +178,15 @@ def terms_of(leaf: Expansion, thesauri: Mapping[str, Thesaurus]) -> list[str]:
     return terms
 
 
+@lru_cache(maxsize=4096)  # a query may ask for the same terms again and again
+def phrase_of_term(term: str, prefs: Prefs) -> Phrase:
+    return trimmed(slots_of_text(term, prefs))
+
+
 def phrases_of(leaf: Leaf, context: Context) -> list[Phrase]:
     """Returns a phrase, or those of the terms that a thesaurus has for one, each of its tokens."""
     if isinstance(leaf, Expansion):
-        return [trimmed(slots_of_text(term, context.prefs)) for term in terms_of(leaf, context.thesauri)]
+        return [phrase_of_term(term, context.prefs) for term in terms_of(leaf, context.thesauri)]
     slots: list[Slot] = []
     for words in leaf.slots:
         slots += slots_of_word(words[0], context.prefs) if len(words) == 1 else [slot_of_words(words, context.prefs)]

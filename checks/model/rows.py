@@ -65,6 +65,28 @@ def items(*titles_and_prices: tuple[str, int], parameters: str = "INDEX SET iset
     return ITEMS + f"CREATE INDEX ci ON items(title) INDEXTYPE IS CTXSYS.CTXCAT PARAMETERS ('{parameters}');\nIndex created.\n" + "".join(rows)
 
 
+def rules(*texts: str) -> str:
+    """Returns the statements that make a table of these rules with an index, with the keys from 1 on."""
+    rows = (f"INSERT INTO rules VALUES ({key},'{text}');\n1 row created.\n" for key, text in enumerate(texts, start=1))
+    table = "CREATE TABLE rules (id NUMBER PRIMARY KEY, q VARCHAR2(200));\nTable created.\n"
+    return table + "".join(rows) + "CREATE INDEX ri ON rules(q) INDEXTYPE IS CTXSYS.CTXRULE;\nIndex created.\n"
+
+
+def matching(document: str, *keys: str) -> str:
+    found = "\n".join(keys or ["[none]"])
+    return f"SELECT id FROM rules WHERE MATCHES(q,'{document}') > 0;\n{found}\n"
+
+
+def errors(*lines: str) -> str:
+    found = "\n".join(lines or ["[none]"])
+    return f"SELECT * FROM CTX_USER_INDEX_ERRORS;\n{found}\n"
+
+
+def results(query: str, descriptor: str, *lines: str) -> str:
+    found = "\n".join(lines)
+    return f"EXEC CTX_QUERY.RESULT_SET('di','{query}','{descriptor}');\n{found}\n"
+
+
 def table_of(*texts: str, parameters: str = "") -> str:
     """Returns the statements that make an indexed table of these texts, with the keys from 1 on."""
     rows = (ROW.format(key=key, text=text) for key, text in enumerate(texts, start=1))
@@ -588,6 +610,64 @@ EXEC CTX_THES.CREATE_THESAURUS('other',FALSE);
     + search("SYN(a,other)", "1|1", "2|1"),
 }
 
+RULES = {
+    "rules that hold of a document": rules("a OR b", "a NOT b", "(a")
+    + errors("ri|3|E20: query syntax at 3")
+    + matching("b c", "1")
+    + matching("a c", "1", "2")
+    + "UPDATE rules SET q='zz' WHERE id = 1;\n1 row updated.\n"
+    + matching("a c", "2")
+    + matching("zz")
+    + "SELECT * FROM CTX_USER_PENDING;\nri|1\n"
+    + "EXEC CTX_DDL.SYNC_INDEX('ri');\n[ok]\n"
+    + matching("zz", "1")
+    + "DELETE FROM rules WHERE id = 1;\n1 row deleted.\n"
+    + matching("zz")
+    + "DROP INDEX ri;\nIndex dropped.\n",
+    # a rule keeps the terms that it got when it was taken, and one that was faulty stays so until it is updated
+    "a rule keeps the terms that its thesaurus had": """\
+EXEC CTX_THES.CREATE_THESAURUS('th');
+[ok]
+"""
+    + relate("dog", "SYN", "hound")
+    + rules("SYN(dog,th)", "SYN(dog,late)", "x AND%")
+    + errors("ri|2|E25: unknown thesaurus late")
+    + matching("hound", "1")
+    + relate("dog", "SYN", "cur")
+    + "EXEC CTX_THES.CREATE_THESAURUS('late');\n[ok]\n"
+    + "EXEC CTX_DDL.SYNC_INDEX('ri');\n[ok]\n"
+    + errors("ri|2|E25: unknown thesaurus late")
+    + matching("cur dog", "1")
+    + matching("cur")
+    + "UPDATE rules SET q=q2 WHERE id = 1;\nE10: statement not understood\n"
+    + "UPDATE rules SET q='SYN(dog,th)' WHERE id IN (1,2);\n2 rows updated.\n"
+    + errors()
+    + matching("cur")
+    + "EXEC CTX_DDL.SYNC_INDEX('ri');\n[ok]\n"
+    + matching("cur", "1", "2")
+    + matching("x and", "3"),
+    "a result set": TABLE
+    + """\
+INSERT INTO docs VALUES (1,'red',5);
+1 row created.
+INSERT INTO docs VALUES (2,'red red',5);
+1 row created.
+INSERT INTO docs VALUES (3,'red',7);
+1 row created.
+"""
+    + index("")
+    + results("red", "count / hits 1 to 2 order by score desc / group price", "count=3", "hit|2|2", "hit|1|1", "group|5|2", "group|7|1")
+    + results("red", "hits 2 to 9", "hit|2|2", "hit|3|1")
+    + results("red", "HITS 1 TO 2 ORDER BY Price DESC, score", "hit|3|1", "hit|1|1")
+    + results("blue", "count", "count=0")
+    + results("blue", "hits 1 to 2/group price", "[none]")
+    + results("red", "count, count", "E30: bad attribute or value")
+    + results("red", "hits 2 to 1", "E22: number out of range")
+    + results("red", "group score", "E11: unknown name score")
+    + results("red", "group body", "E13: wrong type or number of values")
+    + results("red AND", "count", "E20: query syntax at 8"),
+}
+
 UNBUILT = {
     "what isn't searched yet is refused behind the faults of the text, and before those of its reduction": table_of("quick fox quick")
     + search("qu%", NOT_SEARCHED)
@@ -647,7 +727,7 @@ def differing(name: str, example: str, built: frozenset[str]) -> int:
 
 
 def main() -> int:
-    kinds = [(EXAMPLES, BUILT), (LATER, BUILT | NEXT), (UNBUILT, BUILT - NEXT)]
+    kinds = [(EXAMPLES, BUILT), (RULES, BUILT), (LATER, BUILT | NEXT), (UNBUILT, BUILT - NEXT)]
     cases = [(name, example, built) for examples, built in kinds for name, example in examples.items()]
     total = sum(differing(*case) for case in cases)
     print(f"{len(cases)} examples, {total} replies that differ")

@@ -8,6 +8,8 @@ from typing import Literal
 
 from documents import Group, Prefs
 from lexemes import Beyond, Whole
+from reduction import Context
+from rules import Outcome, outcome_of
 from thesauri import Thesaurus
 
 TEXT_LIMIT = 4000
@@ -16,7 +18,7 @@ SUB_TEXT_LIMIT = 100  # how many bytes a text in a column of a sub-index has at 
 Operand = str | int | Beyond
 Value = str | int
 SubIndexes = tuple[tuple[str, ...], ...]  # the columns of each, in order of adding
-Kind = Literal["CONTEXT", "CTXCAT"]  # of an index
+Kind = Literal["CONTEXT", "CTXCAT", "CTXRULE"]  # of an index
 
 
 @dataclass(frozen=True)
@@ -60,7 +62,7 @@ class Table:
 
 @dataclass
 class Index:
-    """An index. One of the kind CONTEXT has the rows that are synchronised, and a catalogue always has all rows of its table."""
+    """An index. One of the kind CONTEXT or CTXRULE has the rows that are synchronised, and a catalogue always has all rows of its table."""
 
     kind: Kind
     table: str
@@ -68,7 +70,11 @@ class Index:
     prefs: Prefs
     sub_indexes: SubIndexes = ()  # of a catalogue
     pending: set[int] = field(default_factory=set)  # the keys of the rows that wait; the other rows of the table are synchronised
-    lost: list[str] = field(default_factory=list)  # the texts that it has lost, whose postings may still be stored
+    lost: list[str] = field(default_factory=list)  # the texts that a CONTEXT index has lost, whose postings may still be stored
+    rules: dict[int, Outcome] = field(default_factory=dict)  # of an index of rules: what became of those that don't wait
+
+    def copy(self) -> Index:
+        return replace(self, pending=set(self.pending), lost=list(self.lost), rules=dict(self.rules))
 
 
 @dataclass
@@ -84,7 +90,7 @@ class State:
     def copy(self) -> State:
         tables = {name: replace(table, rows=dict(table.rows)) for name, table in self.tables.items()}
         preferences = {name: dict(preference) for name, preference in self.preferences.items()}
-        indexes = {name: replace(index, pending=set(index.pending), lost=list(index.lost)) for name, index in self.indexes.items()}
+        indexes = {name: index.copy() for name, index in self.indexes.items()}
         lists = dict(self.stoplists), dict(self.groups), dict(self.index_sets), dict(self.thesauri)
         return State(tables, preferences, *lists, indexes)
 
@@ -102,8 +108,17 @@ class State:
                 yield key, str(values[index.place])
 
     def lose_document(self, index: Index, key: int) -> None:
-        """Takes a row out of an index, whether it waits or is synchronised."""
+        """Takes a row out of an index of the kind CONTEXT or CTXRULE, whether it waits or is synchronised."""
+        index.rules.pop(key, None)
         if key in index.pending:
             index.pending.remove(key)
-        else:
+        elif index.kind == "CONTEXT":
             index.lost.append(str(self.tables[index.table].rows[key][index.place]))
+
+    def synchronise(self, index: Index) -> None:
+        """Takes the rows that wait into an index of the kind CONTEXT or CTXRULE. Rules are taken by the thesauri as they are now."""
+        if index.kind == "CTXRULE":
+            context = Context(index.prefs, self.thesauri)
+            rows = self.tables[index.table].rows
+            index.rules.update((key, outcome_of(str(rows[key][index.place]), context)) for key in index.pending)
+        index.pending.clear()

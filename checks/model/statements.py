@@ -4,7 +4,7 @@ from __future__ import annotations
 
 import re
 from abc import ABC, abstractmethod
-from collections.abc import Iterable, Iterator
+from collections.abc import Iterable, Iterator, Sequence
 from dataclasses import dataclass
 from typing import ClassVar, Literal
 
@@ -16,6 +16,7 @@ from lexemes import Beyond, Whole, is_name
 from preferences import lexer_options, stop_keys
 from queries import Fault
 from reduction import Context, NotSearched, fault_text, reduced, searched
+from rules import Faulty
 from scores import score
 from state import TEXT_LIMIT, Column, Index, Kind, Operand, State, SubIndexes, Table, Value
 from texts import SCORE_LIMIT, WHITE_SPACE, ascii_lower, ascii_upper
@@ -169,7 +170,9 @@ PARAMETERS = {
 PARAMETERS_OF: dict[Kind, tuple[str, ...]] = {
     "CONTEXT": ("LEXER", "STOPLIST", "SECTION GROUP"),
     "CTXCAT": ("LEXER", "STOPLIST", "INDEX SET"),
+    "CTXRULE": ("LEXER", "STOPLIST", "SECTION GROUP"),
 }
+WAITING_KINDS: tuple[Kind, ...] = ("CONTEXT", "CTXRULE")  # of indexes that take rows in when they are synchronised
 
 
 def read_parameters(text: str, index_kind: Kind) -> dict[str, str | None] | None:
@@ -246,7 +249,11 @@ class CreateIndex(Statement):
     def effect(self, state: State) -> str:
         place = state.tables[self.table].place(self.column)
         assert place is not None
-        state.indexes[self.name] = Index(self.kind, self.table, place, self.prefs(state), self.sub_indexes(state))
+        index = Index(self.kind, self.table, place, self.prefs(state), self.sub_indexes(state))
+        state.indexes[self.name] = index
+        if self.kind in WAITING_KINDS:
+            index.pending.update(state.tables[self.table].rows)
+            state.synchronise(index)
         return "Index created.\n"
 
 
@@ -304,7 +311,7 @@ class Insert(Statement):
         key = row[0]
         assert isinstance(key, int)
         table.rows[key] = row
-        for index in state.indexes_of(self.table, "CONTEXT"):
+        for index in state.indexes_of(self.table, *WAITING_KINDS):
             index.pending.add(key)
         return count_of(1, "created")
 
@@ -355,7 +362,7 @@ class Update(Statement):
         changes = {table.place(name): value for name, value in self.assigns if not isinstance(value, Beyond)}
         met = keys_that_meet(table, self.conditions)
         for key in met:
-            for index in state.indexes_of(self.table, "CONTEXT"):
+            for index in state.indexes_of(self.table, *WAITING_KINDS):
                 if index.place in changes:
                     state.lose_document(index, key)
                     index.pending.add(key)
@@ -380,7 +387,7 @@ class Delete(Statement):
         table = state.tables[self.table]
         met = keys_that_meet(table, self.conditions)
         for key in met:
-            for index in state.indexes_of(self.table, "CONTEXT"):
+            for index in state.indexes_of(self.table, *WAITING_KINDS):
                 state.lose_document(index, key)
             del table.rows[key]
         return count_of(len(met), "deleted")
@@ -478,7 +485,25 @@ class Catsearch:
         return [(key, 0) for key in in_order(table, keys, asked.orders)]
 
 
-Search = Contains | Catsearch
+@dataclass(frozen=True)
+class Matches:
+    kind: ClassVar[Kind] = "CTXRULE"
+    column: str
+    document: str
+
+    def refusals(self, state: State, index: Index | None) -> Refusals:
+        """Yields what holds beside an unknown column and an index that isn't there."""
+        if len(self.document.encode()) > TEXT_LIMIT:
+            yield TOO_LONG_VALUE
+
+    def found(self, state: State, index: Index) -> list[Scored]:
+        """Returns the rules that hold of the document, in order of key. None has a score."""
+        its_document = document(index.prefs, self.document)
+        taken = ((key, rule) for key, rule in index.rules.items() if not isinstance(rule, Faulty))
+        return sorted((key, 0) for key, rule in taken if score(rule, its_document) > 0)
+
+
+Search = Contains | Catsearch | Matches
 Item = str | Score
 
 
@@ -488,6 +513,17 @@ class OrderItem:
 
     item: Item
     is_descending: bool
+
+
+def ordered_rows(table: Table, found: Iterable[Scored], orders: Sequence[OrderItem]) -> list[Scored]:
+    """Returns rows by these columns and scores, the first one first, and those of the same ones by rising key."""
+    ordered = sorted(found)
+    for order in reversed(orders):
+        item = order.item
+        place = None if isinstance(item, Score) else table.names.index(item)
+        # which leaves those of one value as they are
+        ordered.sort(key=lambda row: row[1] if place is None else table.rows[row[0]][place], reverse=order.is_descending)
+    return ordered
 
 
 SelectList = Literal["*", "COUNT(*)"] | tuple[Item, ...]
@@ -547,16 +583,8 @@ class Select(Statement):
 
     def found(self, state: State) -> list[Scored]:
         """Returns the rows to be shown, in their order: that of the SELECT itself, where it has one."""
-        found, table = self.met(state), state.tables[self.table]
-        if not self.orders:
-            return found
-        ordered = sorted(found)
-        for order in reversed(self.orders):
-            item = order.item
-            place = None if isinstance(item, Score) else table.names.index(item)
-            # which leaves those of one value as they are
-            ordered.sort(key=lambda row: row[1] if place is None else table.rows[row[0]][place], reverse=order.is_descending)
-        return ordered
+        found = self.met(state)
+        return ordered_rows(state.tables[self.table], found, self.orders) if self.orders else found
 
     def met(self, state: State) -> list[Scored]:
         """Returns the rows that meet the predicates: by rising key, or in the order that its search asks for."""
@@ -579,16 +607,24 @@ class Select(Statement):
 
 
 @dataclass(frozen=True)
-class SelectPending(Statement):
-    """A SELECT from the view of the rows that wait."""
+class SelectView(Statement):
+    """A SELECT from one of the views: of the rows that wait, or of the rules that are faulty."""
 
     shown: SelectList
     has_more: bool  # predicates, or an order
+    is_of_errors: bool = False
 
     def refusals(self, state: State) -> Refusals:
         if isinstance(self.shown, tuple) or self.has_more:
             yield WRONG_VALUES
 
+    def rows(self, name: str, index: Index) -> list[list[Value]]:
+        """Returns the lines of an index, in order of key."""
+        if not self.is_of_errors:
+            return [[name, key] for key in sorted(index.pending)]
+        faults = {key: rule.text for key, rule in index.rules.items() if isinstance(rule, Faulty)}
+        return [[name, key, faults[key]] for key in sorted(faults)]
+
     def effect(self, state: State) -> str:
-        pending = [(name, key) for name in sorted(state.indexes) for key in sorted(state.indexes[name].pending)]
-        return line([len(pending)]) if self.shown == "COUNT(*)" else lines_or_none([line(row) for row in pending])
+        rows = [row for name in sorted(state.indexes) for row in self.rows(name, state.indexes[name])]
+        return line([len(rows)]) if self.shown == "COUNT(*)" else lines_or_none([line(row) for row in rows])

@@ -10,6 +10,7 @@ from texts import WHITE_SPACE
 TABLES = ["docs", "items", "t", "a" * 30, "docs$2#_"]
 INDEXES = ["di", "ti", "docs", "b" * 30, "i#1"]
 COLUMNS = ["id", "body", "price", "title", "note", "c" * 30, "n_2"]
+RULE_COLUMN = "rule"  # of a table whose rows are rules
 PREFERENCES = ["lx", "ly", "docs", "p" * 30, "p#1"]
 STOPLISTS = ["sl", "lx", "s" * 30]
 GROUPS = ["g", "h", "lx", "g" * 30]
@@ -75,12 +76,19 @@ NO_STATEMENTS = [
     "SELECT id FROM docs WHERE CATSEARCH(body, 'quick', NULL) > 0 ORDER BY id",
     "SELECT id FROM docs WHERE CATSEARCH(body, 'a', NULL) > 0 AND CONTAINS(body, 'b') > 0",
     "SELECT * FROM ctx_user_pending WHERE CATSEARCH(body, 'quick', NULL) > 0",
-    "SELECT id FROM docs WHERE MATCHES(body, 'quick') > 0",
+    "SELECT id FROM docs WHERE MATCHES(body, 'quick') > 1",
+    "SELECT id FROM docs WHERE MATCHES(body, 'quick', NULL) > 0",
+    "SELECT id FROM docs WHERE MATCHES(body, 'quick', 1) > 0",
+    "SELECT id FROM docs WHERE MATCHES(body, 'quick') >= 0",
+    "SELECT id FROM docs WHERE MATCHES(body, NULL) > 0",
+    "SELECT id FROM docs WHERE MATCHES(body, 'a') > 0 AND MATCHES(body, 'b') > 0",
+    "SELECT * FROM ctx_user_index_errors WHERE MATCHES(body, 'a') > 0 AND CONTAINS(body, 'b') > 0",
+    "UPDATE ctx_user_index_errors SET id = 1",
+    "SELECT MATCHES(1) FROM docs WHERE MATCHES(body, 'quick') > 0",
     "SELECT id FROM docs WHERE CONTAINS(body, 'a') > 0 AND CONTAINS(body, 'b') > 0",
-    "SELECT * FROM ctx_user_index_errors",
     "SELECT nope FROM ctx_user_index_errors WHERE id = 1",
     "SELECT id FROM docs WHERE CATSEARCH(body, 'quick', 'price < 10 ORDER BY price') > 0 AND id < 5",
-    "CREATE INDEX ri ON docs(body) INDEXTYPE IS CTXRULE",
+    "CREATE INDEX ri ON docs(body) INDEXTYPE IS CTXSYS.CTXRULE PARALLEL 2",
     "CREATE INDEX ci ON docs(body) INDEXTYPE IS CTXSYS.CTXCAT PARALLEL 2",
     "CREATE INDEX ci ON docs(body) INDEXTYPE IS CTXSYS.CTXCAT PARAMETERS (INDEX SET iset)",
     "CREATE INDEX di ON docs(body) INDEXTYPE IS CTXSYS.CONTEXT PARALLEL 2",
@@ -93,7 +101,9 @@ NO_STATEMENTS = [
     "EXEC CTX_DDL.DROP_PREFERENCE('lx')",
     "EXEC CTX_DOC.CREATE_PREFERENCE('lx','BASIC_LEXER')",
     "EXEC CTX_DDL.SET_ATTRIBUTE('lx',base_letter,'YES')",
-    "EXEC CTX_QUERY.RESULT_SET('di','quick','count')",
+    "EXEC CTX_QUERY.RESULT_SET('di','quick',count)",
+    "EXEC CTX_QUERY.RESULT_SETS('di','quick','count')",
+    "EXEC CTX_DOC.RESULT_SET('di','quick','count')",
     "EXEC CTX_THES.CREATE_THESAURUS('th')",
     "EXEC nope.nope()",
     "ROLLBACK",
@@ -105,4 +115,11 @@ NO_STATEMENTS = [
     "COMMIT\u200b",
 ]
 # lexemes that are put into a statement at random places
-STRAY = ["(", ")", ",", ".", "*", "=", "<", "<=", ">", ">=", "-", "0", "'x'", "AND", "FROM", "WHERE", "NULL", "TRUE", "id", "CTXSYS", "%", "\\"]
+STRAY = ["MATCHES", "(", ")", ",", ".", "*", "=", "<", "<=", ">", ">=", "-", "0", "'x'", "AND", "FROM", "WHERE", "NULL", "TRUE", "id", "CTXSYS", "%", "\\"]
+# lexemes that are put into a descriptor at random places, and descriptors that are none
+STRAY_IN_DESCRIPTORS = ["/", ",", "0", "1", "to", "by", "order", "score", "asc", "desc", "hits", "group", "count", "id", "*", "-1", "(", "'", "é", "x" * 31, "1to"]
+NO_DESCRIPTORS = [
+    "", " ", "/", "count,count", "count /", "/ count", "counts", "hits", "hits 1", "hits 1 to", "hits 1 2", "hits -1 to 2", "hits 1 to 2 by price", "hits1 to 2",
+    "hits 1 to2", "hits 1 to 2 order price", "hits 1 to 2 order by", "hits 1 to 2 order by price,", "hits 1 to 2 order by price asc desc", "group", "group price, id",
+    "group price desc", "group score desc", "group 1", "count group price", "hits 1.0 to 2", "hits 1 to 2;", "count\x1c", "\u200bcount", "group \u017fcore", "count" + " / count" * 8,
+]

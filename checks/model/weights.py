@@ -5,7 +5,9 @@ from __future__ import annotations
 from collections.abc import Iterable
 
 from documents import MAIN_STREAM, Group, Prefs, document
+from lengths import list_length, text_length, varint_length
 from preferences import changed_options
+from rules import Faulty, anchors_of, stored_length
 from state import Index, State, SubIndexes, Table, Value
 from texts import KEY_LIMIT
 from thesauri import Thesaurus
@@ -22,24 +24,9 @@ def entry_weight(key: int, value: int) -> int:
     return max(LEAST_WEIGHT, key + value)
 
 
-def varint_length(number: int) -> int:
-    return max(1, -(-number.bit_length() // 7))
-
-
 def name_length(name: str) -> int:
     """Returns the bytes of a name or token in a key: its length in one byte, and its bytes."""
     return 1 + len(name.encode())
-
-
-def text_length(text: str) -> int:
-    """Returns the bytes of a text in a value: its length as a varint, and its bytes."""
-    return varint_length(len(text.encode())) + len(text.encode())
-
-
-def list_length(items: Iterable[int]) -> int:
-    """Returns the bytes of a list in a value, by those of its items."""
-    lengths = list(items)
-    return varint_length(len(lengths)) + sum(lengths)
 
 
 def attributes_length(attributes: dict[str, str]) -> int:
@@ -151,10 +138,29 @@ def context_weight(name: str, index: Index, rows: int, resume_place: int) -> int
     return weight + len(index.pending) * entry_weight(1 + name_length(name) + ROW_KEY, 0)
 
 
+def rules_weight(name: str, index: Index) -> int:
+    """Returns the weight of the entries of an index of rules: its own, one for each row that waits, and those of each rule.
+
+    A faulty rule has its fault. Another one has its query and an entry for each word by which it is looked up, or one without a word.
+    """
+    key = 1 + name_length(name) + ROW_KEY
+    weight = own_weight(name, index, NO_RESUME_PLACE) + len(index.pending) * entry_weight(key, 0)
+    for outcome in index.rules.values():
+        if isinstance(outcome, Faulty):
+            weight += entry_weight(key, len(outcome.text.encode()))
+            continue
+        anchors = anchors_of(outcome)
+        weight += entry_weight(key, stored_length(outcome))
+        weight += sum(entry_weight(key + name_length(anchor), 0) for anchor in ([""] if anchors is None else anchors))
+    return weight
+
+
 def index_weight(name: str, index: Index, table: Table, resume_place: int) -> int:
-    """Returns the weight of the entries of an index, without postings. A catalogue, which isn't optimised, has no place to resume at."""
+    """Returns the weight of the entries of an index, without postings. Only a CONTEXT index is optimised, and has a place to resume at."""
     if index.kind == "CTXCAT":
         return catalogue_weight(name, index, table)
+    if index.kind == "CTXRULE":
+        return rules_weight(name, index)
     return context_weight(name, index, len(table.rows), resume_place)
 
 

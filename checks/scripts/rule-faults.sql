@@ -1,0 +1,72 @@
+-- faulty rules: each fault of a query text, as CTX_USER_INDEX_ERRORS shows it
+CREATE TABLE rules (id NUMBER PRIMARY KEY, q VARCHAR2(4000));
+CREATE INDEX ri ON rules(q) INDEXTYPE IS CTXSYS.CTXRULE;
+INSERT INTO rules VALUES (1,'');
+INSERT INTO rules VALUES (2,'red AND');
+INSERT INTO rules VALUES (3,'red, blue');
+INSERT INTO rules VALUES (4,'fuzzy(red)');
+INSERT INTO rules VALUES (5,'red * 11');
+INSERT INTO rules VALUES (6,'NEAR((a,b),101)');
+INSERT INTO rules VALUES (7,'((((((((((((((((((((((((((((((((( a');
+INSERT INTO rules VALUES (8,'red WITHIN title');
+INSERT INTO rules VALUES (9,'SYN(red)');
+INSERT INTO rules VALUES (10,'SYN(red, colours)');
+INSERT INTO rules VALUES (11,'red = {a-b}');
+INSERT INTO rules VALUES (12,'$red');
+INSERT INTO rules VALUES (13,'red) OR blue');
+INSERT INTO rules VALUES (14,'red OR blue');
+INSERT INTO rules VALUES (15,'{red');
+INSERT INTO rules VALUES (16,'NOT red');
+INSERT INTO rules VALUES (17,'red ? , WITHIN title');
+INSERT INTO rules VALUES (18,'{a-b} = red AND blue WITHIN title');
+INSERT INTO rules VALUES (19,'red NOT (blue WITHIN title)');
+INSERT INTO rules VALUES (20,'. OR red = ...');
+SELECT * FROM CTX_USER_INDEX_ERRORS;
+SELECT COUNT(*) FROM CTX_USER_PENDING;
+EXEC CTX_DDL.SYNC_INDEX('ri');
+SELECT * FROM CTX_USER_INDEX_ERRORS;
+SELECT COUNT(*) FROM CTX_USER_INDEX_ERRORS;
+-- a faulty rule holds of no document, and doesn't wait
+SELECT id FROM rules WHERE MATCHES(q,'red blue a b') > 0;
+SELECT * FROM CTX_USER_PENDING;
+-- it isn't tried again, whatever else changes, until its text is set
+EXEC CTX_THES.CREATE_THESAURUS('default');
+EXEC CTX_THES.CREATE_THESAURUS('colours');
+EXEC CTX_DDL.SYNC_INDEX('ri');
+SELECT COUNT(*) FROM CTX_USER_INDEX_ERRORS;
+UPDATE rules SET q='SYN(red)' WHERE id = 9;
+SELECT COUNT(*) FROM CTX_USER_INDEX_ERRORS;
+SELECT * FROM CTX_USER_PENDING;
+SELECT id FROM rules WHERE MATCHES(q,'red') > 0;
+EXEC CTX_DDL.SYNC_INDEX('ri');
+SELECT id FROM rules WHERE MATCHES(q,'red') > 0;
+-- a rule that was good and becomes faulty; a faulty one that is mended, and one that becomes faulty in another way
+UPDATE rules SET q='red OR' WHERE id = 14;
+UPDATE rules SET q='red AND NOT' WHERE id = 2;
+UPDATE rules SET q='red' WHERE id = 3;
+SELECT id FROM rules WHERE MATCHES(q,'red') > 0;
+EXEC CTX_DDL.SYNC_INDEX('ri');
+SELECT id FROM rules WHERE MATCHES(q,'red') > 0;
+DELETE FROM rules WHERE id BETWEEN 4 AND 8;
+DELETE FROM rules WHERE id > 14;
+SELECT * FROM CTX_USER_INDEX_ERRORS;
+-- an index that is made again tries all of them
+DROP INDEX ri;
+SELECT * FROM CTX_USER_INDEX_ERRORS;
+CREATE INDEX ri ON rules(q) INDEXTYPE IS CTXRULE;
+SELECT COUNT(*) FROM CTX_USER_INDEX_ERRORS;
+SELECT id FROM rules WHERE MATCHES(q,'red') > 0;
+-- fields within WITHIN, and a rule that comes to nothing: neither is found, and the second isn't faulty
+EXEC CTX_DDL.CREATE_SECTION_GROUP('g','BASIC_SECTION_GROUP');
+EXEC CTX_DDL.ADD_FIELD_SECTION('g','maker','MAKER');
+EXEC CTX_DDL.ADD_ZONE_SECTION('g','head','H1');
+CREATE TABLE others (id NUMBER PRIMARY KEY, q CLOB);
+INSERT INTO others VALUES (1,'(red WITHIN maker) WITHIN head');
+INSERT INTO others VALUES (2,'...');
+INSERT INTO others VALUES (3,'... NOT red');
+INSERT INTO others VALUES (4,'red NOT ...');
+INSERT INTO others VALUES (5,'(red WITHIN head) WITHIN maker');
+CREATE INDEX oi ON others(q) INDEXTYPE IS CTXRULE PARAMETERS ('SECTION GROUP g');
+SELECT * FROM CTX_USER_INDEX_ERRORS;
+SELECT id FROM others WHERE MATCHES(q,'<h1><maker>red</maker></h1>') > 0;
+SELECT id FROM others WHERE MATCHES(q,'red') > 0;

@@ -1,0 +1,61 @@
+-- the two views: of the rows that wait, and of the rules that are faulty, in order of the index and of the key
+SELECT * FROM CTX_USER_PENDING;
+SELECT * FROM CTX_USER_INDEX_ERRORS;
+SELECT COUNT(*) FROM CTX_USER_PENDING;
+SELECT COUNT(*) FROM CTX_USER_INDEX_ERRORS;
+CREATE TABLE docs (id NUMBER PRIMARY KEY, body CLOB, rule CLOB);
+CREATE TABLE rules (id NUMBER PRIMARY KEY, q VARCHAR2(100));
+CREATE INDEX zi ON docs(body) INDEXTYPE IS CONTEXT;
+CREATE INDEX yi ON docs(rule) INDEXTYPE IS CTXRULE;
+CREATE INDEX xi ON rules(q) INDEXTYPE IS CTXRULE;
+CREATE INDEX xi_ ON docs(body) INDEXTYPE IS CTXRULE;
+INSERT INTO docs VALUES (10,'a AND','(b');
+INSERT INTO docs VALUES (-5,'a','b)');
+INSERT INTO docs VALUES (2,'','b');
+INSERT INTO rules VALUES (3,'c');
+INSERT INTO rules VALUES (1,'? c');
+SELECT * FROM ctx_user_pending;
+SELECT COUNT(*) FROM ctx_user_pending;
+SELECT * FROM ctx_user_index_errors;
+EXEC CTX_DDL.SYNC_INDEX('xi_');
+SELECT COUNT(*) FROM ctx_user_pending;
+SELECT * FROM ctx_user_index_errors;
+EXEC CTX_DDL.SYNC_INDEX('xi');
+EXEC CTX_DDL.SYNC_INDEX('yi');
+EXEC CTX_DDL.SYNC_INDEX('zi');
+SELECT * FROM Ctx_User_Pending;
+SELECT * FROM Ctx_User_Index_Errors;
+SELECT COUNT(*) FROM CTX_USER_INDEX_ERRORS;
+-- an index that goes takes its lines with it, and so does a table
+DROP INDEX xi_;
+SELECT COUNT(*) FROM CTX_USER_INDEX_ERRORS;
+UPDATE docs SET body='x' WHERE id = 2;
+UPDATE docs SET rule='x' WHERE id = 10;
+SELECT * FROM CTX_USER_PENDING;
+SELECT * FROM CTX_USER_INDEX_ERRORS;
+DROP TABLE docs;
+SELECT * FROM CTX_USER_PENDING;
+SELECT * FROM CTX_USER_INDEX_ERRORS;
+-- E13: a view has the list * or COUNT(*), no condition and no order
+SELECT id FROM CTX_USER_INDEX_ERRORS;
+SELECT SCORE(1) FROM CTX_USER_INDEX_ERRORS;
+SELECT * FROM CTX_USER_INDEX_ERRORS WHERE id = 1;
+SELECT COUNT(*) FROM CTX_USER_INDEX_ERRORS WHERE MATCHES(q,'a') > 0;
+SELECT nope FROM CTX_USER_INDEX_ERRORS WHERE CONTAINS(nono,'a AND') > 101;
+SELECT * FROM CTX_USER_INDEX_ERRORS ORDER BY id;
+SELECT * FROM CTX_USER_INDEX_ERRORS ORDER BY SCORE(1) DESC;
+SELECT * FROM CTX_USER_PENDING WHERE MATCHES(q,'a') > 0;
+SELECT * FROM CTX_USER_INDEX_ERRORS WHERE MATCHES(q,'a') > 0 AND CONTAINS(q,'a') > 0;
+-- their names are kept: CREATE TABLE of one is E12, and any other statement that names one as a table is E11
+CREATE TABLE ctx_user_index_errors (id CLOB);
+DROP TABLE ctx_user_index_errors;
+INSERT INTO ctx_user_index_errors VALUES (1);
+UPDATE ctx_user_index_errors SET id = 1;
+DELETE FROM ctx_user_index_errors;
+CREATE INDEX ei ON ctx_user_index_errors(q) INDEXTYPE IS CTXRULE;
+EXEC CTX_DDL.SYNC_INDEX('ctx_user_index_errors');
+-- an index may have the name of a view
+CREATE INDEX ctx_user_pending ON rules(q) INDEXTYPE IS CONTEXT;
+SELECT * FROM CTX_USER_PENDING;
+INSERT INTO rules VALUES (4,'d');
+SELECT * FROM CTX_USER_PENDING;
