@@ -1,11 +1,15 @@
 #!/usr/bin/env python3
 """Prints the entries of a store file, a line for each: the key and the value, as hexadecimal digits. It writes nothing.
 
-It reads the file as docs/STORE.md says ("Recovery"), also where a crash has left it in the midst of a commit.
+    read_store.py [--rules] FILE
+
+It reads the file as docs/STORE.md says ("Recovery"), also where a crash has left it in the midst of a commit. With --rules it prints the
+rows of all rule indexes instead, each with its rule as it is stored, in words ("Stored queries").
 """
 import sys
 
 PAGE = 4096
+sys.setrecursionlimit(5000)  # a stored query has up to 1024 nodes, one within the other
 
 
 class NoStore(Exception):
@@ -91,12 +95,122 @@ def entries(image):
     return found
 
 
+class Fields:
+    """Reads the fields of a value, one after the other."""
+
+    def __init__(self, data):
+        self.data, self.at = data, 0
+
+    def bytes(self, count):
+        self.at += count
+        need(self.at <= len(self.data), "a value ends too early")
+        return self.data[self.at - count : self.at]
+
+    def byte(self):
+        return self.bytes(1)[0]
+
+    def varint(self):
+        found, shift = 0, 0
+        while True:
+            it = self.byte()
+            found |= (it & 127) << shift
+            shift += 7
+            if it < 128:
+                need((it or shift == 7) and found < 2**32, "a number is spelt wrongly")
+                return found
+
+    def text(self):
+        return self.bytes(self.varint()).decode()
+
+    def list(self, item):
+        return [item() for _ in range(self.varint())]
+
+    def named(self, *names):
+        """Returns the name of a byte, which counts from 1."""
+        it = self.byte()
+        need(1 <= it <= len(names), "a byte stands for nothing")
+        return names[it - 1]
+
+
+JOINED = {2: "AND", 3: "OR", 4: "NOT", 5: "MINUS"}
+
+
+def step(fields):
+    found = fields.named("number", "DISCRETE", "OCCURRENCE", "+", "-", "*")
+    return str(number(fields.bytes(2), 0, 2)) if found == "number" else found
+
+
+def pattern(fields):
+    bits = fields.list(lambda: {"text": fields.text, "_": lambda: "_", "%": lambda: "%"}[fields.named("text", "_", "%")]())
+    return "".join(bits)
+
+
+def slot(fields):
+    if fields.byte() == 0:
+        return "(any word)"
+    return "=".join([*fields.list(fields.text), *fields.list(lambda: pattern(fields))])
+
+
+def term(fields):
+    phrases = fields.list(lambda: " ".join(fields.list(lambda: slot(fields))))
+    return phrases[0] if len(phrases) == 1 else f"({' | '.join(phrases)})"
+
+
+def place(fields):
+    """Returns where a Within looks: in a section, or in the stream of a field."""
+    kind = fields.named("zone", "field", "sentence", "paragraph")
+    return fields.text() if kind == "zone" else f"field {fields.byte()}" if kind == "field" else kind
+
+
+def node(fields):
+    """Returns a query in words, and goes past it."""
+    tag = fields.byte()
+    if tag == 1:
+        return term(fields)
+    if tag in JOINED:
+        left = node(fields)
+        return f"({left} {JOINED[tag]} {node(fields)})"
+    if tag in (6, 7):
+        count = fields.byte()
+        sign = f"* {count / 10:g}" if tag == 6 else f"> {count}"
+        return f"({node(fields)} {sign})"
+    if tag == 8:
+        span, is_ordered = fields.byte(), fields.byte()
+        return f"NEAR(({', '.join(fields.list(lambda: term(fields)))}), {span}{', TRUE' if is_ordered else ''})"
+    if tag == 9:
+        where = place(fields)
+        return f"({node(fields)} WITHIN {where})"
+    need(tag == 10, "a node is of no kind")
+    inner = term(fields)
+    return f"DEFINESCORE({inner}, {' '.join(fields.list(lambda: step(fields)))})"
+
+
+def query(value):
+    fields = Fields(value)
+    found = "nothing" if value == b"\0" else node(fields)
+    need(value == b"\0" or fields.at == len(value), "a query has bytes behind it")
+    return found
+
+
+def rules(found):
+    """Returns the rows of all rule indexes, each with what became of its rule."""
+    indexes = {key[1:] for key, value in found.items() if key[0] == 0x20 and value[:1] == b"\3"}
+    shown = {0x23: lambda _: "waits", 0x2A: query, 0x2C: lambda value: "faulty: " + value.decode()}
+    rows = [(key[1 : 2 + key[1]], number(key, 2 + key[1], 8) - 2**63, shown[key[0]](value)) for key, value in found.items() if key[0] in shown]
+    return sorted((index[1:].decode(), key, rule) for index, key, rule in rows if index in indexes)
+
+
 def main():
+    *options, path = sys.argv[1:]
     try:
-        with open(sys.argv[1], "rb") as it:
+        with open(path, "rb") as it:
             found = entries(it.read())
+        if options == ["--rules"]:
+            for row in rules(found):
+                print(*row, sep="|")
+            return
     except NoStore as why:
-        sys.exit(f"{sys.argv[1]} is no store: {why}")
+        sys.exit(f"{path} is no store: {why}")
     for key in sorted(found):
         print(key.hex(), found[key].hex())
 
