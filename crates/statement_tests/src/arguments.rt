@@ -84,7 +84,10 @@ fn owned(alloc: Global, texts: &[&str]) -> Result<Vec<String>, Memory> {
 fn asked<'a>(store: Option<(&'a str, u64)>, rows: Option<u32>) -> Option<Asked<'a>> {
     match store {
         Some((file, limit)) => Some(Asked::Over(Store { file, limit })),
-        None => rows.map(Asked::Rows),
+        None => match rows {
+            Some(rows) => Some(Asked::Rows(rows)),
+            None => None,
+        },
     }
 }
 
