@@ -6,7 +6,7 @@ ghost use Rattle.ix_posting.specs.Forms.{number_form, pair_form};
 ghost use Rattle.ix_posting.specs.Lists.{posting_list};
 ghost use Rattle.ix_cursor.specs.Reading.{TokensRise, SlotFeedsRise, SectionFeedsRise, FeedsRise};
 
-use ct_base::{DocId, Listed, Memory, Name, Pair};
+use ct_base::{DocId, Listed, Memory, Name};
 use ix_cursor::{Candidates, Cursor, Feeds, SectionFeed, SlotFeed};
 use ix_posting::{EncodedRow, EncodedRows, Row, RowDocument};
 use ix_slots::SlotList;
@@ -67,7 +67,10 @@ fn row(alloc: Global, bytes: &[u8], before: u32) -> Result<(EncodedRow<u32>, u32
     let Some(last) = last_behind(row.documents(), before) else {
         return Err(Fail::new("the rows don't rise"));
     };
-    Ok((EncodedRow::of(Vec::from_slice(alloc, bytes)?), last))
+    let Some(encoded) = EncodedRow::of(Vec::from_slice(alloc, bytes)?) else {
+        return Err(Fail::new("no row"));
+    };
+    Ok((encoded, last))
 }
 
 /// The rows of a token.
@@ -147,8 +150,9 @@ fn section_feed(alloc: Global, name: &str, bytes: &[u8]) -> Result<SectionFeed, 
     ensures { IfOk result (λ f. DocumentsRise pair_form 0 (posting_list f.rows)) }
 {
     let section = Name::read(alloc, name)?;
-    let _row = Row::<Pair>::decode(alloc, bytes)?;
-    let row = EncodedRow::of(Vec::from_slice(alloc, bytes)?);
+    let Some(row) = EncodedRow::of(Vec::from_slice(alloc, bytes)?) else {
+        return Err(Fail::new("no row"));
+    };
     let rows = EncodedRows::of(alloc, vec![in alloc; row]?)?;
     Ok(SectionFeed { section, rows })
 }

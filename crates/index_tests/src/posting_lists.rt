@@ -14,7 +14,7 @@ fn is_next(
     before: u32,
     expected: &(u32, &[u32]),
 ) -> Result<bool, Memory> {
-    let first = postings.skip(alloc, before.saturating_add(1))?;
+    let first = postings.skip(before.saturating_add(1))?;
     let positions = postings.places_at(alloc, expected.0)?;
     Ok(first == Some(expected.0) && positions.as_slice() == expected.1)
 }

@@ -200,6 +200,6 @@ pub(crate) fn pass_section(
     ensures passed { OnOk result (section_passed to section.new ≡ true) }
     ensures bound { IfOk result (λ bound. BoundsFrom to (λ d. has_any (places_at section.new.documents d)) bound) }
 {
-    let first = pass_list(&mut section.documents, alloc, to)?;
+    let first = pass_list(&mut section.documents, to)?;
     Ok(first)
 }

@@ -64,7 +64,7 @@ impl Tokens {
         match self {
             Tokens::Nothing => Ok(None),
             Tokens::One(list) => {
-                let left = pass_list(list, alloc, to)?;
+                let left = pass_list(list, to)?;
                 Ok(left)
             }
             Tokens::Both(from, a, b) => {
@@ -87,7 +87,7 @@ impl Tokens {
     {
         match self {
             Tokens::Nothing => Ok(Vec::new(alloc)),
-            Tokens::One(list) => list.merge_at(alloc, document, Vec::new(alloc)),
+            Tokens::One(list) => list.positions_at(alloc, document),
             Tokens::Both(from, a, b) => {
                 if is_behind(*from, document) {
                     return Ok(Vec::new(alloc));

@@ -56,6 +56,11 @@ greater_rises x (y ∷ ys) h = go (nat_le y x) (greater_rises x ys (above_rises 
     go true rest = rest
     go false rest = h
 
+-- rising numbers beside none
+pub put_none : (xs : List ℕ) → Rising xs → put_all xs [] ≡ xs
+put_none [] rise = refl
+put_none (x ∷ xs) rise = ap (put_position x) (put_none xs (above_rises x xs rise)) ∙ put_first x xs rise
+
 -- what is built so far, and what is still to come
 pub record Merging (numbers others left rest out : List ℕ) : Type 0 where
   pub rise : Rising left

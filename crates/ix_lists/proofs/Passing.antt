@@ -1,14 +1,17 @@
 -- What passing documents leaves.
-use Rattle.std.proofs.Common.{ℕ, ◌≡◌, ◌≤◌, ◌<◌, ◌+◌, Bool, true, false, nat_lt, eqb, List, [], ◌∷◌, ◌++◌, drop, get_or, zero, suc, length, refl, sym, ap, subst, ◌∙◌, arith}
+use Rattle.std.proofs.Common.{ℕ, ◌≡◌, ◌≤◌, ◌<◌, ◌+◌, Bool, true, false, nat_lt, eqb, List, [], ◌∷◌, ◌++◌, Option, Some, None, drop, get_or, zero, suc, length, refl, sym, ap, subst, ◌∙◌, arith}
+use Rattle.std.proofs.lemmas.Bool.{lt-ltb, le-ltb, eq-eqb, ne_eqb}
 use Rattle.std.specs.Bool.{if◌then◌else◌}
 use Rattle.std.proofs.lemmas.Bool.Decides.{nat_tests}
 use Rattle.ix_posting.specs.Lists.{posting_list}
 use Rattle.ix_posting.specs.Forms.{PlaceForm, Rise, number_form}
 use Rattle.ix_posting.specs.Rows.{WordDocument, DocumentsRise}
+use Rattle.ix_posting.specs.Passed.{NoneBehind}
+use Rattle.ix_posting.specs.RowPlaces.{first_number, behind_first, places_of_first}
 use Rattle.ix_posting.specs.declared.rows.RowDocument.{RowDocument}
 use Rattle.ix_spans.specs.Rising.{Above, Rising}
 use Rattle.ix_spans.specs.laws.Rising.{above_rises}
-use Rattle.ix_lists.specs.Documents.{from_on, places_at, first_places, first_document}
+use Rattle.ix_lists.specs.Documents.{from_on, from_place, IsShown, places_at, first_places, first_document}
 use Rattle.ix_lists.specs.laws.Passing.{places_at_none}
 
 pub at_place : {X : Type 0} (xs : List X) (i : ℕ) (x : X) → i < length xs → drop i xs ≡ get_or xs i x ∷ drop (i + 1) xs
@@ -17,6 +20,16 @@ at_place (y ∷ xs) zero x few = refl
 at_place (y ∷ xs) (suc i) x few =
     let e : suc (i + 1) ≡ suc i + 1 = omega arith in
     at_place xs i x (omega (arith, few)) ∙ ap (λ n. get_or xs i x ∷ drop n (y ∷ xs)) e
+
+abbrev or_zero : Option ℕ → ℕ
+or_zero None = 0
+or_zero (Some n) = n
+
+none_of : {n : ℕ} → Some n ≡ None → ⊥
+none_of is = cc
+
+number_in : {n m : ℕ} → Some n ≡ Some m → n ≡ m
+number_in is = ap or_zero is
 
 module _ {P : Type 0} where
   -- ---- documents in rows
@@ -51,12 +64,55 @@ module _ {P : Type 0} where
 
   -- ---- among rows of which some were taken
 
-  -- the row that is decoded next
-  pub next_row : (rows : List (List (RowDocument P))) (i : ℕ) (row item : List (RowDocument P)) → i < length rows → row ≡ item → item ≡ get_or rows i item → posting_list (drop i rows) ≡ row ++ posting_list (drop (i + 1) rows)
-  next_row rows i row item few same is = ap posting_list (at_place rows i item few) ∙ ap (λ r. r ++ posting_list (drop (i + 1) rows)) (sym is ∙ sym same)
+  -- the row that is looked at next
+  pub next_row : (rows : List (List (RowDocument P))) (i : ℕ) → i < length rows → posting_list (drop i rows) ≡ get_or rows i [] ++ posting_list (drop (i + 1) rows)
+  next_row rows i few = ap posting_list (at_place rows i [] few)
 
-  pub left_beyond : (to n t : ℕ) (ls xs : List (RowDocument P)) (rs qs : List (List (RowDocument P))) → rs ≡ qs → from_on to xs ≡ [] → ls ++ posting_list (drop n rs) ≡ from_on to (posting_list (drop t rs)) → ls ++ posting_list (drop n qs) ≡ from_on to (xs ++ posting_list (drop t qs))
-  left_beyond to n t ls xs rs qs is none left = subst (λ zs. ls ++ posting_list (drop n zs) ≡ from_on to (posting_list (drop t zs))) is left ∙ sym (past to xs (posting_list (drop t qs)) none)
+  -- ---- in one row
+
+  -- a row that ends before a number has no document from there on
+  pub none_from : (last to : ℕ) (ds : List (RowDocument P)) → NoneBehind last ds → last < to → from_on to ds ≡ []
+  none_from last to [] none before = refl
+  none_from last to (d ∷ ds) none before = let first = none.0 in rw (lt-ltb d.document to (omega (arith, first, before))) (none_from last to ds none.1 before)
+
+  pub stays : (to n : ℕ) (ds : List (RowDocument P)) → Some n ≡ first_number ds → to ≤ n → from_on to ds ≡ ds
+  stays to n [] is le = absurd (none_of is)
+  stays to n (d ∷ ds) is le = let same : n ≡ d.document = number_in is in rw (le-ltb d.document to (omega (arith, same, le))) refl
+
+  pub passes : (to n : ℕ) (ds : List (RowDocument P)) → Some n ≡ first_number ds → n < to → from_on to ds ≡ from_on to (behind_first ds)
+  passes to n [] is before = absurd (none_of is)
+  passes to n (d ∷ ds) is before = let same : n ≡ d.document = number_in is in rw (lt-ltb d.document to (omega (arith, same, before))) refl
+
+  pub some_first : (n : ℕ) (ds : List (RowDocument P)) → Some n ≡ first_number ds → 0 < length ds
+  some_first n [] is = absurd (none_of is)
+  some_first n (d ∷ ds) is = omega arith
+
+  pub shorter : (n : ℕ) (ds : List (RowDocument P)) → Some n ≡ first_number ds → length (behind_first ds) < length ds
+  shorter n [] is = absurd (none_of is)
+  shorter n (d ∷ ds) is = omega arith
+
+  -- the places of the first, if it is the one
+  pub places_here : (n d : ℕ) (ds : List (RowDocument P)) → Some n ≡ first_number ds → n ≡ d → places_of_first ds ≡ first_places ds d
+  places_here n d [] is same = refl
+  places_here n d (x ∷ xs) is same = let number : n ≡ x.document = number_in is in rw (eq-eqb x.document d (omega (arith, number, same))) refl
+
+  pub places_apart : (n d : ℕ) (ds : List (RowDocument P)) → Some n ≡ first_number ds → (n ≡ d → ⊥) → first_places ds d ≡ []
+  places_apart n d [] is other = refl
+  places_apart n d (x ∷ xs) is other = let number : n ≡ x.document = number_in is in rw (ne_eqb x.document d (λ same. other (omega (arith, number, same)))) refl
+
+  pub number_of_first : (n : ℕ) (ds : List (RowDocument P)) → Some n ≡ first_number ds → Some n ≡ first_document ds
+  number_of_first n [] is = is
+  number_of_first n (x ∷ xs) is = is
+
+  -- ---- what a place shows
+
+  pub shown_places : (o : Option (List (RowDocument P))) (rs : List (List (RowDocument P))) (all : List (RowDocument P)) (d : ℕ) → IsShown o rs → from_place o ++ posting_list rs ≡ all → first_places (from_place o) d ≡ first_places all d
+  shown_places None rs all d none is = sym (ap (λ ds. first_places ds d) (sym is ∙ ap posting_list none))
+  shown_places (Some ds) rs all d some is = first_more ds (posting_list rs) d some ∙ ap (λ es. first_places es d) is
+
+  pub shown_first : (o : Option (List (RowDocument P))) (rs : List (List (RowDocument P))) (all : List (RowDocument P)) → IsShown o rs → from_place o ++ posting_list rs ≡ all → first_document (from_place o) ≡ first_document all
+  shown_first None rs all none is = sym (ap first_document (sym is ∙ ap posting_list none))
+  shown_first (Some ds) rs all some is = first_of_all ds (posting_list rs) some ∙ ap first_document is
 
 module _ {P : Type 0} (form : PlaceForm P) where
   -- ---- rising documents
@@ -73,12 +129,14 @@ module _ {P : Type 0} (form : PlaceForm P) where
       go rest true = rest
       go rest false = h
 
+  -- documents behind others rise
+  pub second_rises : (b : ℕ) (xs ys : List (RowDocument P)) → DocumentsRise form b (xs ++ ys) → DocumentsRise form b ys
+  second_rises b [] ys h = h
+  second_rises b (x ∷ xs) ys h = let first = h.0 in rise_below b x.document ys (omega (arith, first)) (second_rises x.document xs ys h.5)
+
   -- what is left after documents were passed
   pub left_rises : (to : ℕ) (new old : List (RowDocument P)) → new ≡ from_on to old → DocumentsRise form 0 old → DocumentsRise form 0 new
   left_rises to new old is rise = subst (DocumentsRise form 0) (sym is) (from_on_rise to 0 old rise)
-
-  pub rises_beyond : (to n t : ℕ) (ls xs : List (RowDocument P)) (rs qs : List (List (RowDocument P))) → rs ≡ qs → from_on to xs ≡ [] → ls ++ posting_list (drop n rs) ≡ from_on to (posting_list (drop t rs)) → DocumentsRise form 0 (xs ++ posting_list (drop t qs)) → DocumentsRise form 0 (ls ++ posting_list (drop n qs))
-  rises_beyond to n t ls xs rs qs is none left rise = left_rises to (ls ++ posting_list (drop n qs)) (xs ++ posting_list (drop t qs)) (left_beyond to n t ls xs rs qs is none left) rise
 
   -- ---- the places in one document
 
@@ -97,12 +155,9 @@ module _ {P : Type 0} (form : PlaceForm P) where
           rest ∙ sym (ap (λ (b : Bool). if b then x.places else places_at xs d) other)
       go rest false e = there e (eqb x.document d) refl
 
-  -- where a decoded row has it, or what lies beyond
-  pub found_within : (d : ℕ) (ls xs ys : List (RowDocument P)) → DocumentsRise form 0 (xs ++ ys) → ls ≡ from_on d xs → 0 < length ls → first_places ls d ≡ places_at (xs ++ ys) d
-  found_within d ls xs ys rise is some = first_more ls ys d some ∙ ap (λ ds. first_places ds d) (sym (within d ls xs ys is some)) ∙ first_found 0 (xs ++ ys) d rise
-
-  pub found_beyond : (d : ℕ) (ls xs ys : List (RowDocument P)) → DocumentsRise form 0 (xs ++ ys) → from_on d xs ≡ [] → first_places ls d ≡ first_places (from_on d ys) d → first_places ls d ≡ places_at (xs ++ ys) d
-  found_beyond d ls xs ys rise none is = is ∙ ap (λ ds. first_places ds d) (sym (past d xs ys none)) ∙ first_found 0 (xs ++ ys) d rise
+  -- where a place shows it
+  pub found_shown : (d : ℕ) (o : Option (List (RowDocument P))) (rs : List (List (RowDocument P))) (all : List (RowDocument P)) → DocumentsRise form 0 all → IsShown o rs → from_place o ++ posting_list rs ≡ from_on d all → first_places (from_place o) d ≡ places_at all d
+  found_shown d o rs all rise shown is = shown_places o rs (from_on d all) d shown is ∙ first_found 0 all d rise
 
 -- ---- positions rise
 

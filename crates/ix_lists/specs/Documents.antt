@@ -1,5 +1,5 @@
 -- Documents in rising order, as they are and in rows.
-use Rattle.std.specs.Prelude.{ℕ, ◌≡◌, nat_lt, eqb, List, [], ◌∷◌, Option, Some, None, drop, refl}
+use Rattle.std.specs.Prelude.{ℕ, ◌≡◌, nat_lt, eqb, List, [], ◌∷◌, ◌++◌, Option, Some, None, drop, length, ◌<◌, refl}
 use Rattle.std.specs.Bool.{if◌then◌else◌}
 use Rattle.ix_posting.specs.declared.rows.RowDocument.{RowDocument}
 use Rattle.ix_posting.specs.Lists.{posting_list}
@@ -26,10 +26,19 @@ module _ {P : Type 0} where
   first_document [] = None
   first_document (d ∷ ds) = Some d.document
 
--- the documents of a decoded row from a place on; there may be no row
-abbrev pub row_from : {D : Type 0} → Option (List D) → ℕ → List D
-row_from None n = []
-row_from (Some row) n = drop n row
+-- the documents of a row from a place on; there may be no place
+abbrev pub from_place : {D : Type 0} → Option (List D) → List D
+from_place None = []
+from_place (Some ds) = ds
+
+-- the documents that are left: those from a place on, and those of the rows behind the ones that were taken
+abbrev pub left_in : {D : Type 0} → List (List D) → Option (List D) → ℕ → List D
+left_in rows place taken = from_place place ++ posting_list (drop taken rows)
+
+-- the first document of a place and of the rows behind it stands at the place, if there is any
+abbrev pub IsShown : {D : Type 0} → Option (List D) → List (List D) → Type 0
+IsShown None rows = rows ≡ []
+IsShown (Some ds) rows = 0 < length ds
 
 -- ---- computed examples: the documents 2 and 5 in one row, and 7 in the next
 
@@ -65,3 +74,7 @@ in_5 = refl
 -- the first document is the one that is asked for, or there are no places
 not_first : first_places (words_1_to_3 2 ∷ words_1_to_3 5 ∷ []) 5 ≡ []
 not_first = refl
+
+-- one row was taken, as far as the document 5
+left_from_5 : left_in ((at_1 2 ∷ at_1 5 ∷ []) ∷ (at_1 7 ∷ []) ∷ []) (Some (at_1 5 ∷ [])) 1 ≡ at_1 5 ∷ at_1 7 ∷ []
+left_from_5 = refl

@@ -1,91 +1,75 @@
-//! The documents of a token or a section that are left, of which one row is decoded at a time.
+//! The documents of a token or a section that are left, of which the places are decoded one document at a time.
 
-ghost use Rattle.std.specs.Prelude.{◌≡◌, [], ℕ, ◌++◌, ◌≤◌, ◌<◌, drop, length, List, IfOk, OnOk, IfSome, IfNone};
+ghost use Rattle.std.specs.Prelude.{◌≡◌, [], ◌≤◌, ◌<◌, drop, get_or, length, IfOk, IfSome, OnOk};
 ghost use Rattle.ix_posting.specs.Rows.{DocumentsRise};
 ghost use Rattle.ix_posting.specs.Lists.{posting_list};
 ghost use Rattle.ix_spans.specs.Rising.{Rising};
 ghost use Rattle.q_tree.specs.Documents.{put_all};
-ghost use Rattle.ix_lists.specs.Documents.{from_on, places_at, first_places, row_from, first_document};
+ghost use Rattle.ix_lists.specs.Documents.{from_on, from_place, left_in, places_at, first_places, first_document, IsShown};
 
-use crate::merging::merged;
 use ct_base::{Listed, Memory};
-use ix_posting::{EncodedRow, EncodedRows, Place, Row, RowDocument};
+use ix_posting::{EncodedRow, EncodedRows, Place, Row, RowPlace};
 use std::alloc::Global;
 use std::marker::Model;
 
-/// The documents of a row from a place on.
-fn row_from<P: Place>(row: &Option<Row<P>>, next: usize) -> &[RowDocument<P>]
-    ensures { result.now ≡ row_from row.now next }
+/// The first document of a row from a place on that doesn't stand before `to`, if there is one.
+fn seek_in_row<P: Place>(place: RowPlace<P>, to: u32) -> Option<RowPlace<P>>
+    ensures left { from_place result ≡ from_on to place }
+    ensures some { IfSome result (λ p. 0 < length p) }
 {
-    match row {
-        None => &[],
-        Some(row) => documents_from(row.documents(), next),
-    }
-}
-
-/// The documents from a place on.
-fn documents_from<P>(documents: &[RowDocument<P>], next: usize) -> &[RowDocument<P>]
-    ensures { result.now ≡ drop next documents.now }
-{
-    if next > documents.len() {
-        return &[];
-    }
-    &documents[next..]
-}
-
-/// The first place from `next` on whose document doesn't stand before `to`; None where all of them do.
-fn place_among<P>(documents: &[RowDocument<P>], next: usize, to: u32) -> Option<usize>
-    ensures some { IfSome result (λ n. (drop n documents.now ≡ from_on to (drop next documents.now)) × (0 < length (drop n documents.now))) }
-    ensures none { IfNone result (from_on to (drop next documents.now) ≡ []) }
-{
-    for i in next..documents.len() {
-        if documents[i].document >= to {
-            return Some(i);
+    let mut here = place;
+    'documents: loop {
+        let document = here.document();
+        if document >= to {
+            return Some(here);
         }
+        let Some(next) = here.next() else {
+            return None;
+        };
+        here = next;
     }
-    None
 }
 
-/// The same in a row that may be there.
-fn place_in<P: Place>(row: &Option<Row<P>>, next: usize, to: u32) -> Option<usize>
-    ensures some { IfSome result (λ n. (row_from row.now n ≡ from_on to (row_from row.now next)) × (0 < length (row_from row.now n))) }
-    ensures none { IfNone result (from_on to (row_from row.now next) ≡ []) }
+/// The first document of a row that doesn't stand before `to`, if there is one. A row that ends before it isn't gone through.
+fn begin_row<P: Place>(
+    rows: &EncodedRows<P>,
+    index: usize,
+    to: u32,
+) -> Result<Option<RowPlace<P>>, Memory>
+    requires { index < length rows.now }
+    ensures left { IfOk result (λ p. from_place p ≡ from_on to (get_or rows.now index [])) }
+    ensures some { IfOk result (λ p. IfSome p (λ place. 0 < length place)) }
 {
-    match row {
-        None => None,
-        Some(row) => place_among(row.documents(), next, to),
+    let last = rows.last_at(index);
+    if last < to {
+        return Ok(None);
     }
+    let place = RowPlace::first_in(rows, index)?;
+    Ok(seek_in_row(place, to))
 }
 
-/// How far the rows are read: a decoded row, if there is one, the place of its first document that is left, and how many rows were taken.
+/// How far the rows are read: a document of a row, if there is one, and how many rows were taken.
 #[derive(Drop)]
 struct Progress<P: Place> {
-    row: Option<Row<P>>,
-    next: usize,
+    place: Option<RowPlace<P>>,
     taken: usize,
 }
 
-/// The place of the first document that doesn't stand before `to`, among rows of which so many were taken. It decodes one row after
-/// the other.
-fn seek<P: Place>(
-    alloc: Global,
-    rows: &[EncodedRow<P>],
-    taken: usize,
-    to: u32,
-) -> Result<Progress<P>, Memory>
+/// The first document that doesn't stand before `to`, among rows of which so many were taken. It goes through the documents of no row that
+/// ends before it.
+fn seek<P: Place>(rows: &EncodedRows<P>, taken: usize, to: u32) -> Result<Progress<P>, Memory>
     requires { taken ≤ length rows.now }
     ensures taken { IfOk result (λ p. p.taken ≤ length rows.now) }
-    ensures left { IfOk result (λ p. row_from p.row p.next ++ posting_list (drop p.taken rows.now) ≡ from_on to (posting_list (drop taken rows.now))) }
-    ensures shown { IfOk result (λ p. first_document (row_from p.row p.next) ≡ first_document (row_from p.row p.next ++ posting_list (drop p.taken rows.now))) }
-    ensures first { IfOk result (λ p. (d : ℕ) → first_places (row_from p.row p.next) d ≡ first_places (from_on to (posting_list (drop taken rows.now))) d) }
+    ensures left { IfOk result (λ p. left_in rows.now p.place p.taken ≡ from_on to (posting_list (drop taken rows.now))) }
+    ensures shown { IfOk result (λ p. IsShown p.place (drop p.taken rows.now)) }
 {
-    for i in taken..rows.len() {
-        let row = Some(rows[i].decode(alloc)?);
-        match place_in(&row, 0, to) {
-            Some(next) => {
+    let count = rows.as_slice().len();
+    for i in taken..count {
+        let place = begin_row(rows, i, to)?;
+        match place {
+            Some(place) => {
                 return Ok(Progress {
-                    row,
-                    next,
+                    place: Some(place),
                     taken: i + 1,
                 });
             }
@@ -93,17 +77,43 @@ fn seek<P: Place>(
         }
     }
     Ok(Progress {
-        row: None,
-        next: 0,
-        taken: rows.len(),
+        place: None,
+        taken: count,
     })
 }
 
-/// A copy of places.
-fn copied<P: Place>(alloc: Global, places: &[P]) -> Result<Listed<P>, Memory>
-    ensures { IfOk result (λ copy. copy ≡ places.now) }
+/// The same from a place in a row on, if there is one, and behind that row.
+fn seek_from<P: Place>(
+    rows: &EncodedRows<P>,
+    place: Option<RowPlace<P>>,
+    taken: usize,
+    to: u32,
+) -> Result<Progress<P>, Memory>
+    requires { taken ≤ length rows.now }
+    ensures taken { IfOk result (λ p. p.taken ≤ length rows.now) }
+    ensures left { IfOk result (λ p. left_in rows.now p.place p.taken ≡ from_on to (left_in rows.now place taken)) }
+    ensures shown { IfOk result (λ p. IsShown p.place (drop p.taken rows.now)) }
 {
-    Ok(Listed::of(Vec::from_slice(alloc, places)?))
+    let Some(place) = place else {
+        return seek(rows, taken, to);
+    };
+    match seek_in_row(place, to) {
+        Some(place) => Ok(Progress {
+            place: Some(place),
+            taken,
+        }),
+        None => seek(rows, taken, to),
+    }
+}
+
+/// The same place once more. It copies nothing.
+fn shared<P: Place>(place: &Option<RowPlace<P>>) -> Result<Option<RowPlace<P>>, Memory>
+    ensures { IfOk result (λ p. from_place p ≡ from_place place.now) }
+{
+    match place {
+        None => Ok(None),
+        Some(place) => Ok(Some(place.share()?)),
+    }
 }
 
 /// Leaves one place for another.
@@ -114,32 +124,37 @@ fn go_to<P: Place>(place: &mut Progress<P>, other: Progress<P>)
 }
 
 /// The places of the first document, if that is the one.
-fn first_places<P>(documents: &[RowDocument<P>], document: u32) -> &[P]
-    ensures { result.now ≡ first_places documents.now document }
+fn first_places<P: Place>(
+    alloc: Global,
+    place: &Option<RowPlace<P>>,
+    document: u32,
+) -> Result<Vec<P>, Memory>
+    ensures { IfOk result (λ v. v.items ≡ first_places (from_place place.now) document) }
 {
-    match documents {
-        [] => &[],
-        [first, ..] => {
-            if first.document == document {
-                first.places.as_slice()
+    match place {
+        None => Ok(Vec::new(alloc)),
+        Some(place) => {
+            if place.document() == document {
+                place.places(alloc)
             } else {
-                &[]
+                Ok(Vec::new(alloc))
             }
         }
     }
 }
 
 /// The number of the first document.
-fn first_document<P>(documents: &[RowDocument<P>]) -> Option<u32>
-    ensures { result ≡ first_document documents.now }
+fn first_document<P: Place>(place: &Option<RowPlace<P>>) -> Option<u32>
+    ensures { result ≡ first_document (from_place place.now) }
 {
-    match documents {
-        [] => None,
-        [first, ..] => Some(first.document),
+    match place {
+        None => None,
+        Some(place) => Some(place.document()),
     }
 }
 
-/// The documents of a token or a section that are left, in rising order. Its rows are decoded one after the other, as they are needed.
+/// The documents of a token or a section that are left, in rising order. Rows that end before a document that is asked for are passed
+/// as they are, and the places of a document are decoded only where they are asked for.
 #[derive(Drop)]
 pub struct Postings<P: Place> {
     rows: EncodedRows<P>,
@@ -147,17 +162,16 @@ pub struct Postings<P: Place> {
 }
 
 impl<P: Place> Model for Postings<P> {
-    ghost use Rattle.std.specs.Prelude.{List, drop, length, ◌≤◌, ◌++◌};
+    ghost use Rattle.std.specs.Prelude.{List, length, ◌≤◌};
     ghost use Rattle.ix_posting.specs.declared.rows.RowDocument.{RowDocument};
     ghost use Rattle.ix_posting.specs.Rows.{DocumentsRise};
-    ghost use Rattle.ix_posting.specs.Lists.{posting_list};
-    ghost use Rattle.ix_lists.specs.Documents.{row_from};
+    ghost use Rattle.ix_lists.specs.Documents.{left_in};
 
     ghost Value = { List (RowDocument P) };
 
-    ghost view = { λ p. row_from p.place.row p.place.next ++ posting_list (drop p.place.taken p.rows) };
+    ghost view = { λ p. left_in p.rows p.place.place p.place.taken };
 
-    ghost invariant = { λ p. (p.place.taken ≤ length p.rows) × DocumentsRise P.form 0 (row_from p.place.row p.place.next ++ posting_list (drop p.place.taken p.rows)) };
+    ghost invariant = { λ p. (p.place.taken ≤ length p.rows) × DocumentsRise P.form 0 (left_in p.rows p.place.place p.place.taken) };
 }
 
 impl<P: Place> Postings<P> {
@@ -169,88 +183,65 @@ impl<P: Place> Postings<P> {
         Postings {
             rows,
             place: Progress {
-                row: None,
-                next: 0,
+                place: None,
                 taken: 0,
             },
         }
     }
 
-    /// The documents of one row, which is decoded already.
+    /// The documents of one row. Its cost is the length of the row.
     pub fn of_row(alloc: Global, row: Row<P>) -> Result<Postings<P>, Memory>
         ensures { IfOk result (λ p. p ≡ row) }
     {
-        let _documents = row.documents();
-        Ok(Postings {
-            rows: EncodedRows::of(alloc, Vec::new(alloc))?,
-            place: Progress {
-                row: Some(row),
-                next: 0,
-                taken: 0,
-            },
-        })
+        let bytes = row.encode(alloc)?;
+        let Some(encoded) = EncodedRow::of(bytes) else {
+            unreachable!();
+        };
+        let mut rows = Vec::new(alloc);
+        rows.push(encoded)?;
+        Ok(Postings::of(EncodedRows::of(alloc, rows)?))
     }
 
-    /// Passes the documents before `to`, and gives the first that is left; None where none is. It decodes the rows from the present one on,
-    /// as far as one with such a document; after an error it may only be dropped.
-    pub fn skip(&mut self, alloc: Global, to: u32) -> Result<Option<u32>, Memory>
+    /// Passes the documents before `to`, and gives the first that is left; None where none is. It goes through the documents of the present
+    /// row and of the one that has such a document, and decodes no place; after an error it may only be dropped.
+    pub fn skip(&mut self, to: u32) -> Result<Option<u32>, Memory>
         ensures left { OnOk result (self.new ≡ from_on to self.old) }
         ensures first { IfOk result (λ first. first ≡ first_document self.new) }
         ensures rise { OnOk result (DocumentsRise P.form 0 self.new) }
     {
-        match place_in(&self.place.row, self.place.next, to) {
-            Some(next) => {
-                self.place.next = next;
-                Ok(first_document(row_from(&self.place.row, next)))
-            }
-            None => {
-                let place = seek(alloc, self.rows.as_slice(), self.place.taken, to)?;
-                let first = first_document(row_from(&place.row, place.next));
-                go_to(&mut self.place, place);
-                Ok(first)
-            }
-        }
+        let here = self.place.place.take();
+        let place = seek_from(&self.rows, here, self.place.taken, to)?;
+        let first = first_document(&place.place);
+        go_to(&mut self.place, place);
+        Ok(first)
     }
 
-    /// The places in a document. At a document before which the others were passed it decodes nothing.
+    /// The place of a document, or of the first behind it.
+    fn place_of(&self, document: u32) -> Result<Progress<P>, Memory>
+        ensures places { IfOk result (λ p. first_places (from_place p.place) document ≡ places_at self.now document) }
+        ensures rise { IfOk result (λ _. DocumentsRise P.form 0 self.now) }
+    {
+        let here = shared(&self.place.place)?;
+        let found = seek_from(&self.rows, here, self.place.taken, document)?;
+        Ok(found)
+    }
+
+    /// The places in a document. Those of no other document are decoded.
     pub fn places_at(&self, alloc: Global, document: u32) -> Result<Listed<P>, Memory>
         ensures { IfOk result (λ v. v ≡ places_at self.now document) }
     {
-        match place_in(&self.place.row, self.place.next, document) {
-            Some(next) => {
-                let left = row_from(&self.place.row, next);
-                copied(alloc, first_places(left, document))
-            }
-            None => {
-                let place = seek(alloc, self.rows.as_slice(), self.place.taken, document)?;
-                let left = row_from(&place.row, place.next);
-                copied(alloc, first_places(left, document))
-            }
-        }
+        let found = self.place_of(document)?;
+        Ok(Listed::of(first_places(alloc, &found.place, document)?))
     }
 }
 
 impl Postings<u32> {
-    /// Merges the positions in a document into rising ones. At a document before which the others were passed it decodes nothing.
-    pub fn merge_at(
-        &self,
-        alloc: Global,
-        document: u32,
-        numbers: Vec<u32>,
-    ) -> Result<Vec<u32>, Memory>
-        requires { Rising numbers.items }
-        ensures { IfOk result (λ v. v.items ≡ put_all (places_at self.now document) numbers.items) }
+    /// The positions in a document, rising. Those of no other document are decoded.
+    pub fn positions_at(&self, alloc: Global, document: u32) -> Result<Vec<u32>, Memory>
+        ensures positions { IfOk result (λ v. v.items ≡ put_all (places_at self.now document) []) }
+        ensures rise { IfOk result (λ v. Rising v.items) }
     {
-        match place_in(&self.place.row, self.place.next, document) {
-            Some(next) => {
-                let left = row_from(&self.place.row, next);
-                merged(alloc, first_places(left, document), numbers)
-            }
-            None => {
-                let place = seek(alloc, self.rows.as_slice(), self.place.taken, document)?;
-                let left = row_from(&place.row, place.next);
-                merged(alloc, first_places(left, document), numbers)
-            }
-        }
+        let found = self.place_of(document)?;
+        first_places(alloc, &found.place, document)
     }
 }

@@ -18,6 +18,10 @@ module _ {P : Type 0} (form : PlaceForm P) where
   abbrev pub SpeltRow : List ℕ → Type 0
   SpeltRow bytes = (row : List (RowDocument P)) × ∥ IsPostingRowOf form row × (posting_bytes_of form row ≡ bytes) ∥₁
 
+  -- a row, of which it is only told that it is one
+  abbrev pub IsMereRow : List (RowDocument P) → Type 0
+  IsMereRow row = ∥ IsPostingRowOf form row ∥₁
+
   -- two rows are equal in one way at most
   pub same_row : IsForm form → (a b : List (RowDocument P)) → IsProp (a ≡ b)
   same_row lawful a b = Coded-set (coded_list (coded_document lawful.code)) a b

@@ -14,14 +14,14 @@ use std::alloc::Global;
 
 /// What a document begins with: its number and how many places it has; and where the bytes go on after it.
 #[derive(Clone, Copy)]
-struct Head {
-    document: u32,
-    count: u32,
-    next: usize,
+pub(crate) struct Head {
+    pub(crate) document: u32,
+    pub(crate) count: u32,
+    pub(crate) next: usize,
 }
 
 /// What a document after `before` begins with, from `at` on.
-fn read_head(bytes: &[u8], at: usize, before: u32) -> Option<Head>
+pub(crate) fn read_head(bytes: &[u8], at: usize, before: u32) -> Option<Head>
     ensures some { IfSome result (λ h. IsHeadAt bytes.now before at h.document h.count h.next) }
     ensures none { IfNone result ((document count next : ℕ) → IsHeadAt bytes.now before at document count next → ⊥) }
 {

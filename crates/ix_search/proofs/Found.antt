@@ -67,7 +67,7 @@ use Rattle.ix_search.specs.Texts.{doc_words, doc_sections, scanned_postings}
 use Rattle.ix_search.specs.Parts.{keys_of, patterns_of}
 use Rattle.ix_rows.specs.Taking.{SpellRows, Hold}
 use Rattle.ix_tokens.specs.Tokens.{KeyRows, HoldsKey}
-use Rattle.ix_search.specs.Reading.{NameRows, HoldsTokens, HoldsName, CanBeRead, AreRowsOfPatterns, AreSlotFeeds, AreFeedsOf, section_feed, wanted_slots, section_names}
+use Rattle.ix_search.specs.Reading.{NameRows, HoldsTokens, HoldsName, CanBeRead, AreRowsOfPatterns, AreSlotFeeds, AreFeedsOf, AreFeedsOfQuery, section_feed, wanted_slots, section_names}
 use Rattle.ix_search.specs.Walking.{if_some, AreOneToOne, AreScores}
 use Rattle.ix_search.specs.Finding.{query_score, scored, found, found_at}
 use Rattle.ix_search.specs.laws.Words.{number_turned, positions_stand, words_rise}
@@ -233,6 +233,10 @@ module _ (m : Content) (t : Table) (x : IndexOf ContextIndex) (i : List ℕ) (on
 
     pub names_held : EachIs (HoldsName m i spans) (section_names q)
     names_held = each_all (HoldsName m i spans) (section_names q) name_held
+
+    -- what was read is what the content holds
+    pub fed_by_content : (feeds : Feeds) → AreFeedsOfQuery m i q feeds → AreFeedsOf words spans q feeds
+    fed_by_content feeds read = read words spans tokens_held slots_can_be_read names_held
 
     -- ---- the score of a document that is a row
 

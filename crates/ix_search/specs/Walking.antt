@@ -26,6 +26,10 @@ pub record AreScoresBefore (row : ℕ → Option ℤ) (score : ℕ → ℕ) (to 
 abbrev pub AreScores : (ℕ → Option ℤ) → (ℕ → ℕ) → Rows ℕ → Type 0
 AreScores row score scores = AreScoresBefore row score (2 ^ 32) scores
 
+-- and where no row is two documents
+abbrev pub AreScoresOfRows : (ℕ → Option ℤ) → (ℕ → ℕ) → Rows ℕ → Type 0
+AreScoresOfRows row score scores = AreOneToOne row → AreScores row score scores
+
 -- computed examples
 above_0 : if_some 3 ≡ Some 3
 above_0 = refl

@@ -8,6 +8,7 @@ mod laws;
 mod mapping;
 mod reading;
 mod scores;
+mod scoring;
 mod searching;
 mod walking;
 mod wanting;

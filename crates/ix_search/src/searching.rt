@@ -17,9 +17,10 @@ use crate::gathering::Gathered;
 use crate::hits::Hit;
 use crate::mapping::map_documents;
 use crate::reading::read;
+use crate::scoring::score_rows;
 use ct_base::Name;
 use ct_keep::{KeepFault, Keeper};
-use ix_cursor::Candidates;
+use ix_cursor::{Candidates, Cursor};
 use q_tree::Flat;
 use std::alloc::Global;
 
@@ -49,8 +50,8 @@ pub fn gather<'q, K: Keeper>(
 
 /// The rows that a query finds, with their scores, in order of their keys.
 ///
-/// It costs what it gathers, and then the scoring of what was read.
-/// It reads no text, and never answers Full.
+/// It reads what `gather` reads, and scores while it looks up: of each row of postings it goes through the documents as far as one may have a
+/// score, once, and it makes one look-up for each document that has one. It reads no text, and never answers Full.
 pub fn search<K: Keeper>(
     alloc: Global,
     keeper: &mut K,
@@ -63,6 +64,8 @@ pub fn search<K: Keeper>(
     ensures reads { OnlyReads K.view keeper.old keeper.new result }
     ensures at_most { Told K.view keeper.old (λ m. LooksAtMost K.view keeper.old keeper.new (query_looks m index.now (reduced_of flat.now))) }
 {
-    let gathered = gather(alloc, keeper, index, flat)?;
-    Ok(gathered.hits(alloc)?)
+    let feeds = read(alloc, keeper, index, flat)?;
+    let mut cursor = Cursor::build(alloc, flat, &feeds)?;
+    let scores = score_rows(alloc, keeper, index, &mut cursor)?;
+    Ok(scores.into_hits(alloc)?)
 }
