@@ -1,2 +1,3 @@
 pub mod TakeSteps
 pub mod MapSteps
+mod BehindSteps

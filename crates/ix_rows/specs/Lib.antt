@@ -7,6 +7,7 @@ pub mod Growing
 pub mod Firsts
 pub mod RowMaps
 pub mod Gathering
+pub mod Coming
 pub mod GrowingLists
 pub mod Taking
 pub mod PlacedRows

@@ -6,6 +6,8 @@ use Rattle.ix_posting.specs.Rows.{WordDocument}
 use Rattle.ix_rows.specs.Spelling.{greedy}
 use Rattle.ix_rows.specs.Splits.{IsSplit}
 use Rattle.ix_rows.specs.Stored.{ListsStand}
+use Rattle.ix_rows.specs.RowMaps.{TermRowsView}
+use Rattle.ix_rows.specs.Coming.{Coming, with_postings, coming_to}
 use Rattle.ix_rows.specs.PlacedRows.{document_number}
 use Rattle.ix_rows.specs.WordRows.{IsWordTerm, word_cost}
 use Rattle.ix_rows.specs.laws.Stored.{AreNew, without}
@@ -41,6 +43,12 @@ DeadDocumentsStand =
 pub record HasOneSplit {D : Type 0} (number : D → ℕ) (bytes_of : List D → List ℕ) : Type 0 where
   pub there : (list : List D) → IsSplit number bytes_of list (greedy number bytes_of list)
   pub one : (list : List D) (rows : List (List D)) → IsSplit number bytes_of list rows → rows ≡ greedy number bytes_of list
+
+-- ---- what grows of postings
+
+-- What grows is the same where the same comes to each term in the same order, however the terms are mixed: so it is of an inversion as of one document after the other.
+abbrev pub GrowsByTerm : Type 0
+GrowsByTerm = (ps qs : List Coming) → ((term : List ℕ) → coming_to term ps ≡ coming_to term qs) → (m : TermRowsView) → with_postings m ps ≡ with_postings m qs
 
 -- computed example: where the document 2 is a row no more, the document 1 still is
 the_first_stays : without (document_number {P = ℕ}) IsWordTerm (λ d. Some (pos d)) 2 1 ≡ Some (pos 1)

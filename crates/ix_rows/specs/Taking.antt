@@ -1,5 +1,6 @@
 -- Which rows entries hold, and which of them are taken.
-use Rattle.std.specs.Prelude.{ℕ, ◌≡◌, nat_lt, Bool, true, false, List, [], ◌∷◌, Option, Some, None, refl}
+use Rattle.std.specs.Prelude.{ℕ, ◌≡◌, List, [], ◌∷◌, Option, Some, None, refl}
+use Rattle.std.proofs.Common.{arith}
 use Rattle.ix_posting.specs.declared.rows.RowDocument.{RowDocument}
 use Rattle.ix_posting.specs.Lists.{posting_list}
 use Rattle.ix_posting.specs.Forms.{PlaceForm, number_form}
@@ -13,11 +14,6 @@ module _ {D : Type 0} (number : D → ℕ) where
   abbrev pub last_number : ℕ → List D → ℕ
   last_number before [] = before
   last_number before (x ∷ xs) = last_number (number x) xs
-
-  -- whether the first document stands behind one; where there is none, it does
-  abbrev pub begins_behind : ℕ → List D → Bool
-  begins_behind before [] = true
-  begins_behind before (x ∷ xs) = nat_lt before (number x)
 
 module _ {P : Type 0} (form : PlaceForm P) where
   -- the values of the entries spell these rows, in their order
@@ -57,8 +53,9 @@ the_last = refl
 the_one_before : last_number (document_number {P = ℕ}) 5 [] ≡ 5
 the_one_before = refl
 
-not_behind_itself : begins_behind document_number 3 (at_two 3 ∷ at_two 8 ∷ []) ≡ false
-not_behind_itself = refl
+-- documents that begin at 3 don't rise behind it
+not_behind_itself : DocumentsRise number_form 3 (at_two 3 ∷ at_two 8 ∷ []) → ⊥
+not_behind_itself rise = let first = rise.0 in omega (arith, first)
 
 -- the bytes of a row whose first document is 3, behind the document 2
 a_row_held : IsPostingRowOf number_form (at_two 3 ∷ []) → SpellRows number_form ((0 ∷ [], posting_bytes (at_two 3 ∷ [])) ∷ []) ((at_two 3 ∷ []) ∷ [])

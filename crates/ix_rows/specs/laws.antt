@@ -4,6 +4,7 @@ pub mod Spelling
 pub mod Splits
 pub mod Growing
 pub mod Gathering
+pub mod Coming
 pub mod GrowingLists
 pub mod Stores
 pub mod Tidies

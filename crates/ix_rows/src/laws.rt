@@ -1,7 +1,7 @@
 //! What holds of posting lists. Each function here only states a law, which its contract proves.
 
 ghost use Rattle.ix_posting.specs.Rows.{posting_bytes, span_row_bytes};
-ghost use Rattle.ix_rows.specs.Promises.{DeadDocumentsStand, HasOneSplit, NewDocumentsStand};
+ghost use Rattle.ix_rows.specs.Promises.{DeadDocumentsStand, GrowsByTerm, HasOneSplit, NewDocumentsStand};
 ghost use Rattle.ix_rows.specs.PlacedRows.{document_number};
 
 /// New documents behind those that an index has given leave what stands under each term, and waste nothing.
@@ -18,4 +18,9 @@ pub fn dead_documents_stand()
 pub fn lists_have_one_split()
     ensures words { HasOneSplit document_number posting_bytes }
     ensures sections { HasOneSplit document_number span_row_bytes }
+{}
+
+/// The rows that grow of postings are told by what comes to each term, in its order.
+pub fn rows_grow_by_term()
+    ensures { GrowsByTerm }
 {}

@@ -11,7 +11,9 @@ mod taking;
 mod terms;
 
 pub use firsts::put_firsts;
-pub use laws::{dead_documents_stand, lists_have_one_split, new_documents_stand};
+pub use laws::{
+    dead_documents_stand, lists_have_one_split, new_documents_stand, rows_grow_by_term,
+};
 pub use row_maps::TermRows;
 pub use taking::{rows_in, rows_of};
 pub use terms::{put_section_term, put_word_term};

@@ -1,65 +1,34 @@
 //! Rows, taken as their bytes.
 
-ghost use Rattle.std.specs.Prelude.{◌≡◌, ◌++◌, List, IfOk, map};
+ghost use Rattle.std.specs.Prelude.{◌++◌, IfOk, map};
 ghost use Rattle.ct_keep.specs.KeeperViews.{Finds, OnlyReads, Told};
 ghost use Rattle.ct_keep.specs.Looks.{LooksAtMost, scan_looks};
 ghost use Rattle.ct_entry.specs.Keys.{prefix_of};
 ghost use Rattle.ct_entry.specs.Listings.{owner_entries};
-ghost use Rattle.ix_posting.specs.declared.rows.RowDocument.{RowDocument};
 ghost use Rattle.ix_posting.specs.Lists.{posting_list};
 ghost use Rattle.ix_posting.specs.Rows.{DocumentsRise};
-ghost use Rattle.ix_rows.specs.PlacedRows.{document_number};
-ghost use Rattle.ix_rows.specs.Taking.{AreHeld, IsTaken, AreTaken, last_number, begins_behind};
+ghost use Rattle.ix_rows.specs.Taking.{AreHeld, IsTaken, AreTaken};
 
 use ct_base::{Memory, Name};
 use ct_entry::{Kind, entries_of};
 use ct_keep::{KeepFault, Keeper};
-use ix_posting::{EncodedRow, EncodedRows, Place, Row, RowDocument, RowFault};
+use ix_posting::{EncodedRow, EncodedRows, Place};
 use std::alloc::Global;
 
-/// The number of the last document, or the one before all.
-fn last_number<P>(documents: &[RowDocument<P>], before: u32) -> u32
-    ensures { result ≡ last_number document_number before documents.now }
-{
-    let mut last = before;
-    let mut rest = documents;
-    while let [first, later @ ..] = rest {
-        last = first.document;
-        rest = later;
-    }
-    last
-}
-
-/// Whether the first document stands behind one.
-fn begins_behind<P>(documents: &[RowDocument<P>], before: u32) -> bool
-    ensures { result ≡ begins_behind document_number before documents.now }
-{
-    match documents {
-        [] => true,
-        [first, ..] => first.document > before,
-    }
-}
-
 /// The row that bytes spell, and its last document, where its first one stands behind `before`; and else None. It keeps
-/// the bytes, and nothing of what it decodes. Its cost is their length.
-fn row_behind<P: Place>(
-    alloc: Global,
-    bytes: Vec<u8>,
-    before: u32,
-) -> Result<Option<(EncodedRow<P>, u32)>, Memory>
-    ensures { IfOk result (λ taken. IsTaken P.form before bytes.items taken) }
+/// the bytes, and decodes nothing. Its cost is their length.
+fn row_behind<P: Place>(bytes: Vec<u8>, before: u32) -> Option<(EncodedRow<P>, u32)>
+    ensures { IsTaken P.form before bytes.items result }
 {
-    match Row::<P>::decode(alloc, bytes.as_slice()) {
-        Ok(row) => {
-            if !begins_behind(row.documents(), before) {
-                return Ok(None);
-            }
-            let last = last_number(row.documents(), before);
-            Ok(Some((EncodedRow::of(bytes), last)))
-        }
-        Err(RowFault::BadRow) => Ok(None),
-        Err(RowFault::Memory) => Err(Memory),
+    let Some(row) = EncodedRow::of(bytes) else {
+        return None;
+    };
+    let first = row.first();
+    if first <= before {
+        return None;
     }
+    let last = row.last();
+    Some((row, last))
 }
 
 /// Rows that the values of entries spell. Where each value spells a row, and documents rise from one row to the next, these are all rows. Of
@@ -73,7 +42,7 @@ pub fn rows_in<P: Place>(
     let mut rows = Vec::new(alloc);
     let mut last = 0;
     for (_, value) in entries {
-        if let Some((row, end)) = row_behind(alloc, value, last)? {
+        if let Some((row, end)) = row_behind(value, last) {
             rows.push(row)?;
             last = end;
         }

@@ -3,7 +3,7 @@ use Rattle.std.specs.declared.alloc.Global.{Global}
 use Rattle.std.proofs.lemmas.Grind.{common_steps}
 use Rattle.ix_rows.specs.Taking.{IsTaken}
 use Rattle.ix_rows.proofs.TakeSteps.{SoFar, begun, taken, passed, ended}
-use Rattle.ix_rows.proofs.taking.rows_in.Goals.{in-Some-2+in_ok-push, in_default}
+use Rattle.ix_rows.proofs.taking.rows_in.Goals.{in-Some-row_behind+in_ok-push, in_default}
 use Rattle.ix_rows.proofs.taking.rows_in.Goals as goal
 
 abbrev pairs_of : List (Vec ℕ Global × Vec ℕ Global) → List (List ℕ × List ℕ)
@@ -18,13 +18,13 @@ loop-value-preserved g c =
     let far : SoFar g.P.Place.form es (pairs_of ((c.in-Some.field-0-0, c.in-Some.value) ∷ c.next.new.self.rest.items)) c.loop-value.rows.items c.loop-value.last =
     subst (λ (l : List (Vec ℕ Global × Vec ℕ Global)). SoFar g.P.Place.form es (pairs_of l) c.loop-value.rows.items c.loop-value.last) c.in-Some.ensures.steps.0 c.loop-value.invariant in
     let rest = pairs_of c.next.new.self.rest.items in
-    elim c.match-branch-2.branch [
-      | in-Some-2+in_ok-push w ↦
-          taken g.P.Place.form es rest (c.in-Some.field-0-0.items, c.in-Some.value.items) c.loop-value.rows.items c.match-branch-2.rows.items c.loop-value.last w.in-Some-2.row w.in-Some-2.end c.match-branch-2.last
-          far (subst (IsTaken g.P.Place.form c.loop-value.last c.in-Some.value.items) w.in-Some-2.is c.in_ok-row.ensures) (ap (λ v. v.items) w.rows-is ∙ w.in_ok-push.ensures.items) w.last-is
+    elim c.match-row_behind.branch [
+      | in-Some-row_behind+in_ok-push w ↦
+          taken g.P.Place.form es rest (c.in-Some.field-0-0.items, c.in-Some.value.items) c.loop-value.rows.items c.match-row_behind.rows.items c.loop-value.last w.in-Some-row_behind.row w.in-Some-row_behind.end c.match-row_behind.last
+          far (subst (IsTaken g.P.Place.form c.loop-value.last c.in-Some.value.items) w.in-Some-row_behind.is c.row_behind.ensures) (ap (λ v. v.items) w.rows-is ∙ w.in_ok-push.ensures.items) w.last-is
       | in_default w ↦
-          passed g.P.Place.form es rest (c.in-Some.field-0-0.items, c.in-Some.value.items) c.loop-value.rows.items c.match-branch-2.rows.items c.loop-value.last c.match-branch-2.last
-          far (subst (IsTaken g.P.Place.form c.loop-value.last c.in-Some.value.items) w.in_default.is c.in_ok-row.ensures) (ap (λ v. v.items) w.rows-is) w.last-is
+          passed g.P.Place.form es rest (c.in-Some.field-0-0.items, c.in-Some.value.items) c.loop-value.rows.items c.match-row_behind.rows.items c.loop-value.last c.match-row_behind.last
+          far (subst (IsTaken g.P.Place.form c.loop-value.last c.in-Some.value.items) w.in_default.is c.row_behind.ensures) (ap (λ v. v.items) w.rows-is) w.last-is
     ]
 
 pub returns : goal.returns
