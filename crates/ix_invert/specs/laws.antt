@@ -1,0 +1,4 @@
+pub mod Orders
+pub mod Inversions
+pub mod Unique
+pub mod Terms
