@@ -15,10 +15,11 @@ use Rattle.tx_settings.specs.declared.preferences.Prefs.{Prefs}
 use Rattle.db_names.specs.declared.heads.IndexKind.TheVariants.{Catalogue}
 use Rattle.ix_kinds.specs.Rows.{row_keys_of}
 use Rattle.ix_kinds.specs.Indextypes.{IndexOf, Indextype}
+use Rattle.ix_kinds.specs.Standing.{no_place}
 use Rattle.cat_index.specs.declared.catalogues.Catalogue.{Catalogue as NewCatalogue}
 use Rattle.cat_index.specs.declared.filings.Filing.{Filing}
 use Rattle.cat_index.specs.Catalogues.{CatalogueBody, filing, has_place, places_in, docs_names, docs_catalogue}
-use Rattle.cat_index.specs.Spelling.{catalogue_bytes, rest_bytes}
+use Rattle.cat_index.specs.Spelling.{catalogue_bytes, told_bytes}
 use Rattle.cat_index.specs.Rules.{IsAskedFor, IsCatalogue}
 use Rattle.cat_index.specs.Changes.{changes_of_row, rows_come}
 use Rattle.cat_index.specs.Standing.{CatalogueStands}
@@ -69,15 +70,18 @@ create_changes t i x = put_value (key kind.Indexes i []) (catalogue_entry x) ∷
 -- ---- the kind
 
 -- A catalogue looks at its own column and at those of its sub-indexes. A row that comes, changes or goes changes its entries at once, by its values alone: no entry
--- is read. CREATE INDEX asks for the columns of the sub-indexes, by their names. It is never synchronised, and wastes nothing.
+-- is read. CREATE INDEX asks for the columns of the sub-indexes, by their names. It is never synchronised nor optimised, and wastes nothing.
 abbrev pub catalogue : {D : Type 0} → Indextype CatalogueBody (List (List (List ℕ))) D (Unit {0})
 catalogue {D} = record {
   kind = λ b. Catalogue;
   looks = λ x column. (column == x.column) || has_place x.body.places column;
   is = IsCatalogue;
   unwasted = λ b. b;
+  tidy = λ b. false;
+  untidied = λ b. b;
   own = λ b k. is_row_kind k;
-  rest = λ x. rest_bytes x.prefs x.body.names;
+  rest = λ x. told_bytes x.prefs x.body.names;
+  resumes = λ b place. place ≡ no_place;
   stands = CatalogueStands;
   room = λ i x t. sum_by (row_weight i x) (entries t.rows);
   cost = λ i x vs. 0;
@@ -86,7 +90,7 @@ catalogue {D} = record {
   row_changes = λ i x columns change read. changes_of_row i x change.row change.old change.new;
   can_sync = λ x. false;
   after_sync = λ d t x. x.body;
-  sync_changes = λ d t i x. [];
+  sync_changes = λ d t i x place. [];
   asks = IsAskedFor;
   can_create = λ t names. true;
   new_body = λ names d t target prefs. new_catalogue t.columns names;

@@ -11,15 +11,24 @@ use Rattle.tx_settings.specs.declared.preferences.Prefs.{Prefs}
 use Rattle.tx_settings.specs.Defaults.{default_prefs}
 use Rattle.tx_settings.specs.PrefsBytes.{prefs_bytes, IsPrefs}
 use Rattle.tx_sets.specs.Sets.{are_sub_indexes, set_bytes}
+use Rattle.ix_kinds.specs.Standing.{no_place}
 use Rattle.cat_index.specs.declared.catalogues.Catalogue.{Catalogue}
 
 -- what stands at the end: no next document, in four bytes, the tidiness 0, and no place to resume at
 abbrev pub last_bytes : List ℕ
 last_bytes = 0 ∷ 0 ∷ 0 ∷ 0 ∷ 0 ∷ 0 ∷ 0 ∷ []
 
+-- of it what stands before the place
+abbrev pub no_number : List ℕ
+no_number = 0 ∷ 0 ∷ 0 ∷ 0 ∷ 0 ∷ []
+
 -- what stands behind the head: that the index isn't transactional, its preferences, its sub-indexes, and this
 abbrev pub rest_bytes : Prefs → List (List (List ℕ)) → List ℕ
 rest_bytes prefs names = 0 ∷ (prefs_bytes prefs ++ (set_bytes names ++ last_bytes))
+
+-- the same before the place
+abbrev pub told_bytes : Prefs → List (List (List ℕ)) → List ℕ
+told_bytes prefs names = 0 ∷ (prefs_bytes prefs ++ (set_bytes names ++ no_number))
 
 -- The entry of a catalogue: its kind 2, its table as a text, its column in one byte, and this.
 abbrev pub catalogue_bytes : Catalogue → List ℕ
@@ -50,6 +59,9 @@ of_prices = record { target = record { table = codes "docs"; column = 1 }; prefs
 an_entry : catalogue_bytes of_prices ≡ 2 ∷ 4 ∷ codes "docs" ++ (1 ∷ 0 ∷ 0 ∷ 0 ∷ 2 ∷ 0 ∷ 0 ∷ 1 ∷ 1 ∷ 5 ∷ codes "price" ++ (0 ∷ 0 ∷ 0 ∷ 0 ∷ 0 ∷ 0 ∷ 0 ∷ []))
 unfolding varint encode
 an_entry = refl
+
+the_last : no_number ++ no_place ≡ last_bytes
+the_last = refl
 
 no_entry : SpellsCatalogue None None
 no_entry x is e = cc

@@ -10,9 +10,10 @@ use Rattle.tx_settings.specs.Defaults.{default_prefs}
 use Rattle.db_names.specs.declared.heads.IndexKind.TheVariants.{Rules}
 use Rattle.ix_kinds.specs.Rows.{row_keys_of, table_at}
 use Rattle.ix_kinds.specs.Indextypes.{Indextype}
+use Rattle.ix_kinds.specs.Standing.{no_place}
 use Rattle.rule_index.specs.Outcomes.{NamedThesauri}
 use Rattle.rule_index.specs.RuleIndexes.{RuleBody, RuleIndex, mark_of, row_outcome, rules_after, all_settled, new_rules, waiting, three_rules}
-use Rattle.rule_index.specs.Spelling.{rest_bytes, anchors_at}
+use Rattle.rule_index.specs.Spelling.{told_bytes, anchors_at}
 use Rattle.rule_index.specs.Standing.{AreRules, MarksStand}
 use Rattle.rule_index.specs.Changes.{rule_changes, settle_each_changes, come_changes, entry_change}
 use Rattle.rule_index.specs.Room.{rules_room}
@@ -39,15 +40,18 @@ create_in i thesauri target p ts = create_changes thesauri (table_at ts target.t
 
 -- A rule index looks at its own column alone. A row that comes or of which the column is set waits for the next synchronisation; of one that was settled the
 -- index reads the stored query, for the keys under which it was filed. A synchronisation and CREATE INDEX read the table, the preferences and the thesauri. CREATE
--- INDEX asks for nothing more. It wastes nothing.
+-- INDEX asks for nothing more. It wastes nothing, and is never optimised.
 abbrev pub rule_indexes : Indextype RuleBody (Unit {0}) NamedThesauri (List (List ℕ))
 rule_indexes = record {
   kind = λ b. Rules;
   looks = λ x column. column == x.column;
   is = AreRules;
   unwasted = λ b. b;
+  tidy = λ b. false;
+  untidied = λ b. b;
   own = λ b k. is_rule_kind k;
-  rest = λ x. rest_bytes x.prefs;
+  rest = λ x. told_bytes x.prefs;
+  resumes = λ b place. place ≡ no_place;
   stands = λ f i x t. MarksStand f i (mark_of x);
   room = λ i x t. rules_room i x.body;
   cost = λ i x vs. 0;
@@ -56,7 +60,7 @@ rule_indexes = record {
   row_changes = λ i x columns change anchors. rule_changes i change.row change.old change.new anchors;
   can_sync = λ x. true;
   after_sync = λ thesauri t x. all_settled (row_outcome thesauri t x.column x.prefs) x.body;
-  sync_changes = sync_changes;
+  sync_changes = λ thesauri t i x place. sync_changes thesauri t i x;
   asks = λ t p a. Unit {0};
   can_create = λ t a. true;
   new_body = λ a thesauri t target p. new_rules (row_outcome thesauri t target.column p) (row_keys_of t);

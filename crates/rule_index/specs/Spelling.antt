@@ -9,6 +9,7 @@ use Rattle.ct_entry.specs.Keys.{Key, key, row_part, same_list}
 use Rattle.tx_settings.specs.declared.preferences.Prefs.{Prefs}
 use Rattle.tx_settings.specs.Defaults.{default_prefs}
 use Rattle.tx_settings.specs.PrefsBytes.{prefs_bytes}
+use Rattle.ix_kinds.specs.Standing.{no_place}
 use Rattle.ix_docmap.specs.Marks.{Pending, Settled}
 use Rattle.q_tree.specs.ReducedQueries.{Reduced}
 use Rattle.q_stored.specs.QueryBytes.{a_term}
@@ -24,9 +25,17 @@ use Rattle.q_stored.specs.Decoding.{stored_query}
 abbrev pub zeros : List ℕ
 zeros = 0 ∷ 0 ∷ 0 ∷ 0 ∷ 0 ∷ 0 ∷ 0 ∷ 0 ∷ []
 
+-- of these what stands before the place
+abbrev pub no_number : List ℕ
+no_number = 0 ∷ 0 ∷ 0 ∷ 0 ∷ 0 ∷ 0 ∷ []
+
 -- what stands behind the head
 abbrev pub rest_bytes : Prefs → List ℕ
 rest_bytes p = 0 ∷ (prefs_bytes p ++ zeros)
+
+-- the same before the place
+abbrev pub told_bytes : Prefs → List ℕ
+told_bytes p = 0 ∷ (prefs_bytes p ++ no_number)
 
 abbrev pub after_table : ℕ → Prefs → List ℕ
 after_table column p = column ∷ rest_bytes p
@@ -96,6 +105,9 @@ anchors_at f i r = entry_anchors (rule_at f i r)
 its_entry : rules_bytes (codes "rules") 1 default_prefs ≡ 3 ∷ 5 ∷ codes "rules" ++ (1 ∷ 0 ∷ 0 ∷ 0 ∷ 2 ∷ 0 ∷ 0 ∷ 0 ∷ 0 ∷ 0 ∷ 0 ∷ 0 ∷ 0 ∷ 0 ∷ 0 ∷ [])
 unfolding varint encode
 its_entry = refl
+
+the_last : no_number ++ no_place ≡ zeros
+the_last = refl
 
 under_its_key : anchor_value (Some (Settled (Taken (Some a_term)))) (codes "a") ≡ Some []
 under_its_key = refl

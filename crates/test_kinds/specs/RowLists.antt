@@ -14,6 +14,7 @@ use Rattle.db_names.specs.declared.heads.IndexKind.TheVariants.{Rules}
 use Rattle.db_names.specs.Heads.{index_head_bytes}
 use Rattle.ix_kinds.specs.Rows.{row_keys_of}
 use Rattle.ix_kinds.specs.Indextypes.{IndexOf, Indextype}
+use Rattle.ix_kinds.specs.Standing.{no_place}
 use Rattle.ix_kinds.specs.IndextypeLaws.{IndextypeLaws}
 use Rattle.ix_kinds.specs.Sums.{either}
 use Rattle.ix_context.specs.Contexts.{context}
@@ -48,20 +49,23 @@ abbrev pub list_rows : List ℕ → List ℤ → List (Key × Option (List ℕ))
 list_rows i rows = each (λ r. list_row i r true) rows
 
 abbrev pub list_entry : IndexOf (Unit {0}) → List ℕ
-list_entry x = index_head_bytes Rules x.table x.column ++ prefs_bytes x.prefs
+list_entry x = index_head_bytes Rules x.table x.column ++ (prefs_bytes x.prefs ++ no_place)
 
 abbrev pub new_list : Target → Prefs → IndexOf (Unit {0})
 new_list target prefs = record { table = target.table; column = target.column; prefs = prefs; body = tt }
 
--- An index looks at no column, reads nothing, wastes nothing, and is never synchronised.
+-- An index looks at no column, reads nothing, wastes nothing, and is never synchronised nor optimised.
 abbrev pub row_lists : {D : Type 0} → Indextype (Unit {0}) (Unit {0}) D (Unit {0})
 row_lists {D} = record {
   kind = λ b. Rules;
   looks = λ x column. false;
   is = λ t x. Unit {0};
   unwasted = λ b. b;
+  tidy = λ b. false;
+  untidied = λ b. b;
   own = λ b k. is_list k;
   rest = λ x. prefs_bytes x.prefs;
+  resumes = λ b place. place ≡ no_place;
   stands = λ f i x t. ListsRows f i t;
   room = λ i x t. 0;
   cost = λ i x vs. 0;
@@ -70,7 +74,7 @@ row_lists {D} = record {
   row_changes = λ i x columns change read. list_change i change.row (is_some change.old) (is_some change.new);
   can_sync = λ x. false;
   after_sync = λ d t x. x.body;
-  sync_changes = λ d t i x. [];
+  sync_changes = λ d t i x place. [];
   asks = λ t prefs a. Unit {0};
   can_create = λ t a. true;
   new_body = λ a d t target prefs. tt;

@@ -20,7 +20,8 @@ use Rattle.ct_entry.specs.laws.Parts.{int_from_eq, int_same}
 use Rattle.tb_table.specs.declared.columns.Column.{Column}
 use Rattle.tb_table.specs.Tables.{Table, as_text, text_in, text_in_column}
 use Rattle.tb_table.specs.Rules.{IsTable}
-use Rattle.tx_settings.specs.PrefsBytes.{IsPrefs}
+use Rattle.tx_settings.specs.declared.preferences.Prefs.{Prefs}
+use Rattle.tx_settings.specs.PrefsBytes.{prefs_bytes, IsPrefs}
 use Rattle.tx_settings.specs.laws.MadeAgain.{prefs_apart}
 use Rattle.tx_sets.specs.Sets.{set_bytes}
 use Rattle.tx_sets.specs.laws.Sets.{set_apart}
@@ -30,11 +31,12 @@ use Rattle.db_names.specs.Heads.{index_head_bytes}
 use Rattle.db_names.specs.laws.Heads.{head_apart}
 use Rattle.ix_kinds.specs.Rows.{value_at_place, value_in_column, value_of_row, row_keys_of}
 use Rattle.ix_kinds.specs.Indextypes.{IndexOf}
-use Rattle.ix_kinds.specs.Standing.{index_entry}
-use Rattle.ix_kinds.specs.IndextypeLaws.{StandsAlone, RowsChange, Synchronises, Creates, TellsOne, IndextypeLaws}
+use Rattle.ix_kinds.specs.Standing.{no_place, index_entry}
+use Rattle.ix_kinds.specs.IndextypeLaws.{StandsAlone, Untidies, RowsChange, Synchronises, Creates, TellsOne, IndextypeLaws}
+use Rattle.ix_kinds.specs.laws.NeverTidy.{never_tidy}
 use Rattle.cat_index.specs.Filings.{filing_by, is_filed}
 use Rattle.cat_index.specs.Catalogues.{CatalogueBody, filing, filing_in, filing_of, has_place, places_in, value_at}
-use Rattle.cat_index.specs.Spelling.{last_bytes, rest_bytes}
+use Rattle.cat_index.specs.Spelling.{no_number, rest_bytes, told_bytes}
 use Rattle.cat_index.specs.Rules.{AreSubIndexes, IsCatalogue}
 use Rattle.cat_index.specs.Changes.{filed, filing_changes, changes_of_row, rows_come}
 use Rattle.cat_index.specs.Standing.{CatalogueStands}
@@ -164,9 +166,16 @@ created f i x t is none = record {
 
 -- ---- its entry
 
--- is what its head and the rest are
-pub entry_is : (D : Type 0) (x : IndexOf CatalogueBody) → catalogue_entry x ≡ index_entry (catalogue {D = D}) x
-entry_is D x = sym (append_assoc (2 ∷ text_bytes x.table) (x.column ∷ []) (rest_bytes x.prefs x.body.names))
+-- what stands behind the head ends in no place
+told_rest : (p : Prefs) (names : List (List (List ℕ))) (place : List ℕ) → told_bytes p names ++ place ≡ 0 ∷ (prefs_bytes p ++ (set_bytes names ++ (no_number ++ place)))
+told_rest p names place =
+    ap (λ (l : List ℕ). 0 ∷ l) (append_assoc (prefs_bytes p) (set_bytes names ++ no_number) place ∙ ap (λ (l : List ℕ). prefs_bytes p ++ l) (append_assoc (set_bytes names) no_number place))
+
+-- is what its head and the rest are, and no place
+pub entry_is : (D : Type 0) (x : IndexOf CatalogueBody) → catalogue_entry x ≡ index_entry (catalogue {D = D}) x no_place
+entry_is D x =
+    sym (append_assoc (2 ∷ text_bytes x.table) (x.column ∷ []) (rest_bytes x.prefs x.body.names))
+    ∙ ap (λ (l : List ℕ). index_head_bytes Catalogue x.table x.column ++ l) (sym (told_rest x.prefs x.body.names no_place))
 
 abbrev pub head_of : IndexOf CatalogueBody → IndexHead
 head_of x = record { kind = Catalogue; target = record { table = x.table; column = x.column } }
@@ -177,19 +186,22 @@ pub record SameParts (x y : IndexOf CatalogueBody) : Type 0 where
   pub prefs : x.prefs ≡ y.prefs
   pub names : x.body.names ≡ y.body.names
 
-pub parts_one : (D : Type 0) (x y : IndexOf CatalogueBody) → IsPrefs x.prefs → IsPrefs y.prefs → index_entry (catalogue {D = D}) x ≡ index_entry (catalogue {D = D}) y → SameParts x y
-parts_one D x y x_prefs y_prefs e =
-    let head = head_apart (head_of x) (head_of y) (rest_bytes x.prefs x.body.names) (rest_bytes y.prefs y.body.names) e in
+pub parts_one : (D : Type 0) (x y : IndexOf CatalogueBody) (p q : List ℕ) → IsPrefs x.prefs → IsPrefs y.prefs → index_entry (catalogue {D = D}) x p ≡ index_entry (catalogue {D = D}) y q → SameParts x y
+parts_one D x y p q x_prefs y_prefs e =
+    let x_rest : List ℕ = told_bytes x.prefs x.body.names ++ p in
+    let y_rest : List ℕ = told_bytes y.prefs y.body.names ++ q in
+    let head = head_apart (head_of x) (head_of y) x_rest y_rest e in
     let head_is : index_head_bytes Catalogue x.table x.column ≡ index_head_bytes Catalogue y.table y.column = ap (λ (h : IndexHead). index_head_bytes Catalogue h.target.table h.target.column) head in
-    let rest = append_cancel_left (index_head_bytes Catalogue y.table y.column) (rest_bytes x.prefs x.body.names) (rest_bytes y.prefs y.body.names) (ap (λ (l : List ℕ). l ++ rest_bytes x.prefs x.body.names) (sym head_is) ∙ e) in
-    let prefs = prefs_apart x.prefs y.prefs (set_bytes x.body.names ++ last_bytes) (set_bytes y.body.names ++ last_bytes) x_prefs y_prefs (cons_parts _ _ _ _ rest).1 in
-    let names = set_apart x.body.names y.body.names last_bytes last_bytes prefs.1 in
+    let rest = append_cancel_left (index_head_bytes Catalogue y.table y.column) x_rest y_rest (ap (λ (l : List ℕ). l ++ x_rest) (sym head_is) ∙ e) in
+    let spelt = sym (told_rest x.prefs x.body.names p) ∙ rest ∙ told_rest y.prefs y.body.names q in
+    let prefs = prefs_apart x.prefs y.prefs (set_bytes x.body.names ++ (no_number ++ p)) (set_bytes y.body.names ++ (no_number ++ q)) x_prefs y_prefs (cons_parts _ _ _ _ spelt).1 in
+    let names = set_apart x.body.names y.body.names (no_number ++ p) (no_number ++ q) prefs.1 in
     record { head = head; prefs = prefs.0; names = names.0 }
 
-one_catalogue : (D : Type 0) (x y : IndexOf CatalogueBody) (t u : Table) → IsCatalogue t x → IsCatalogue u y → IsPrefs x.prefs → IsPrefs y.prefs → (x.table ≡ y.table → t ≡ u)
-    → index_entry (catalogue {D = D}) x ≡ index_entry (catalogue {D = D}) y → x ≡ y
-one_catalogue D x y t u x_is y_is x_prefs y_prefs same e =
-    let parts = parts_one D x y x_prefs y_prefs e in
+one_catalogue : (D : Type 0) (x y : IndexOf CatalogueBody) (t u : Table) (p q : List ℕ) → IsCatalogue t x → IsCatalogue u y → IsPrefs x.prefs → IsPrefs y.prefs → (x.table ≡ y.table → t ≡ u)
+    → index_entry (catalogue {D = D}) x p ≡ index_entry (catalogue {D = D}) y q → x ≡ y
+one_catalogue D x y t u p q x_is y_is x_prefs y_prefs same e =
+    let parts = parts_one D x y p q x_prefs y_prefs e in
     let table = same (ap (λ (h : IndexHead). h.target.table) parts.head) in
     let places : x.body.places ≡ y.body.places = x_is.places ∙ (λ j. places_in (table j).columns (parts.names j)) ∙ sym y_is.places in
     λ j. record { table = (parts.head j).target.table; column = (parts.head j).target.column; prefs = parts.prefs j; body = record { names = parts.names j; places = places j } }
@@ -207,14 +219,16 @@ module _ {D : Type 0} where
     is_alike = λ x t u alike is. same_rules x t u alike.columns is;
   }
 
+  -- one is never tidy
+  catalogue_untidies : Untidies (catalogue {D = D})
+  catalogue_untidies = never_tidy (catalogue {D = D}) (λ b. refl) (λ b. refl)
+
   catalogue_rows : RowsChange (catalogue {D = D})
   catalogue_rows = record {
-    same = λ c n x. record { kind = refl; own = λ k. refl; looks = λ column. refl };
-    own = λ f i x columns c n. record {
-      on = (row_on i x c.row c.old c.new).own;
-      of = wider (changes_of_row i x c.row c.old c.new) (row_on i x c.row c.old c.new).rows;
-      entry = not_own (changes_of_row i x c.row c.old c.new) (row_on i x c.row c.old c.new).rows i (Some (index_entry (catalogue {D = D}) x));
-    };
+    same = λ c n x. record { kind = refl; own = λ k. refl; looks = λ column. refl; resumes = λ place resumes. resumes };
+    loose = λ c n b untidy. refl;
+    own = λ f i x columns c. record { on = (row_on i x c.row c.old c.new).own; of = wider (changes_of_row i x c.row c.old c.new) (row_on i x c.row c.old c.new).rows };
+    entry = λ f i x columns c n place keeps. not_own (changes_of_row i x c.row c.old c.new) (row_on i x c.row c.old c.new).rows i (Some (index_entry (catalogue {D = D}) x place));
     is = λ t u x c n is_t is_u by is. same_rules x t u by.columns is;
     stands = λ f i x t u c n is_t is_u by cost is stands. row_stands f i x t u c.row by.others stands is_t is_u c.old c.new by.old by.new;
     read_agree = λ f g i x r same. refl;
@@ -224,28 +238,33 @@ module _ {D : Type 0} where
 
   catalogue_sync : Synchronises (catalogue {D = D})
   catalogue_sync = record {
-    same = λ d t x. record { kind = refl; own = λ k. refl; looks = λ column. refl };
-    own = λ d t i x. record { on = tt; of = tt; entry = refl };
+    same = λ d t x. record { kind = refl; own = λ k. refl; looks = λ column. refl; resumes = λ place resumes. resumes };
+    own = λ d t i x place. record { on = tt; of = tt };
+    entry = λ d t i x place. refl;
     is = λ d t x is_t prefs can is. is;
-    stands = λ f d t i x is_t prefs can is stands. stands;
+    stands = λ f d t i x place is_t prefs can is stands. stands;
   }
 
   catalogue_create : Creates (catalogue {D = D})
   catalogue_create = record {
     on = λ a d t i target prefs. (refl, (rows_on i (new_catalogue_on t target prefs a) t (row_keys_of t)).own);
     of = λ a d t i target prefs. (refl, wider _ (rows_on i (new_catalogue_on t target prefs a) t (row_keys_of t)).rows);
-    entry = λ a d t i target prefs old.
-        not_own _ (rows_on i (new_catalogue_on t target prefs a) t (row_keys_of t)).rows i (told (put_value (key kind.Indexes i []) (catalogue_entry (new_catalogue_on t target prefs a)) ∷ []) (key kind.Indexes i []) old)
-        ∙ ap (λ (b : Bool). cond b (Some (catalogue_entry (new_catalogue_on t target prefs a))) old) (key_same (key kind.Indexes i []))
-        ∙ ap Some (entry_is D (new_catalogue_on t target prefs a));
+    entry = λ a d t i target prefs. (
+      no_place,
+      refl,
+      λ old.
+          not_own _ (rows_on i (new_catalogue_on t target prefs a) t (row_keys_of t)).rows i (told (put_value (key kind.Indexes i []) (catalogue_entry (new_catalogue_on t target prefs a)) ∷ []) (key kind.Indexes i []) old)
+          ∙ ap (λ (b : Bool). cond b (Some (catalogue_entry (new_catalogue_on t target prefs a))) old) (key_same (key kind.Indexes i []))
+          ∙ ap Some (entry_is D (new_catalogue_on t target prefs a)),
+    );
     is = λ a d t target prefs is texts prefs_are asks can. record { asked = asks; places = refl };
     stands = λ f a d t i target prefs is texts prefs_are asks can none.
         created (view (put_value (key kind.Indexes i []) (catalogue_entry (new_catalogue_on t target prefs a)) ∷ []) f) i (new_catalogue_on t target prefs a) t is (λ part. none (key kind.Catalogue i part) refl refl);
   }
 
   catalogues_tell : TellsOne (catalogue {D = D})
-  catalogues_tell = record { one = λ f i x y t u is_t is_u x_is y_is x_prefs y_prefs same entry x_stands y_stands. one_catalogue D x y t u x_is y_is x_prefs y_prefs same entry }
+  catalogues_tell = record { one = λ f i x y t u is_t is_u x_is y_is x_prefs y_prefs same p q x_resumes y_resumes entry x_stands y_stands. one_catalogue D x y t u p q x_is y_is x_prefs y_prefs same entry }
 
   -- CATALOGUES GIVE WHAT A KIND OF INDEXES HAS TO GIVE.
   pub catalogue_laws : IndextypeLaws (catalogue {D = D})
-  catalogue_laws = record { alone = catalogues_alone; rows = catalogue_rows; syncs = catalogue_sync; creates = catalogue_create; one = catalogues_tell }
+  catalogue_laws = record { alone = catalogues_alone; untidies = catalogue_untidies; rows = catalogue_rows; syncs = catalogue_sync; creates = catalogue_create; one = catalogues_tell }

@@ -23,7 +23,7 @@ use Rattle.tx_settings.specs.PrefsBytes.{IsPrefs}
 use Rattle.tx_sets.specs.Sets.{sub_column_limit}
 use Rattle.ix_kinds.specs.Rows.{value_at_place}
 use Rattle.ix_kinds.specs.Indextypes.{IndexOf}
-use Rattle.ix_kinds.specs.Standing.{index_entry}
+use Rattle.ix_kinds.specs.Standing.{no_place, index_entry}
 use Rattle.cat_index.specs.declared.catalogues.Catalogue.{Catalogue}
 use Rattle.cat_index.specs.Filings.{IsShortOrNone, at_place, fit_sub_index, is_just, text_words, value_bytes}
 use Rattle.cat_index.specs.Catalogues.{CatalogueBody, filing, value_at}
@@ -47,7 +47,7 @@ pub spellable : (x : IndexOf CatalogueBody) (t : Table) → IsName x.table → x
 spellable x t name few prefs is = record { table = name; column = few; prefs = prefs; subs = is.asked.subs.few; named = is.asked.subs.named }
 
 pub entry_well : (D : Type 0) (i : List ℕ) (x : IndexOf CatalogueBody) (t : Table) → IsName x.table → x.column < 256 → IsPrefs x.prefs → IsCatalogue t x
-    → HasCatalogueValue (key kind.Indexes i []) (index_entry (catalogue {D = D}) x) × (length (index_entry (catalogue {D = D}) x) ≤ value_limit)
+    → HasCatalogueValue (key kind.Indexes i []) (index_entry (catalogue {D = D}) x no_place) × (length (index_entry (catalogue {D = D}) x no_place) ≤ value_limit)
 entry_well D i x t name few prefs is =
     let may = spellable x t name few prefs is in
     let long = length-catalogue_bytes_le (entry_of x) may in

@@ -20,14 +20,15 @@ use Rattle.tb_table.specs.declared.columns.Column.{Column}
 use Rattle.tb_table.specs.Tables.{Table, Tables, row_in, row_at}
 use Rattle.tb_table.specs.Rules.{AreTables}
 use Rattle.ix_kinds.specs.Rows.{table_at, RowChange, row_change}
-use Rattle.ix_kinds.specs.Indextypes.{IndexOf, Indextype}
+use Rattle.ix_kinds.specs.Indextypes.{IndexOf, Indextype, untidied_index}
 use Rattle.ix_kinds.specs.Standing.{is_of_indexes, IndexesStand}
-use Rattle.ix_kinds.specs.Statements.{AreIndexesOn, indexes_after_row, indexes_after, index_after_row, row_cost, tables_after, row_changes_in, row_changes_at}
+use Rattle.ix_kinds.specs.Statements.{AreIndexesOn, indexes_untidied, untidying_at, untidying_for, indexes_after_row, indexes_after, index_after_row, row_cost, tables_after, row_changes_in, row_changes_at}
 use Rattle.ix_kinds.specs.IndextypeLaws.{IndextypeLaws, by_row}
-use Rattle.ix_kinds.specs.RowSteps.{HaveSameColumns, DifferInRow, AreUnseen, IsStep, AreSteps, IndexesHold}
+use Rattle.ix_kinds.specs.RowSteps.{HaveSameColumns, DifferInRow, AreUnseen, KeepEntries, IsStep, AreSteps, IndexesHold}
 use Rattle.ix_kinds.specs.laws.Standing.{of_part, indexes_frame, told_own}
 use Rattle.ix_kinds.specs.laws.Tables.{and_false, same_columns}
-use Rattle.ix_kinds.specs.laws.Rows.{row_changes_on, get-after_row, row_stands, row_keeps, names_stay}
+use Rattle.ix_kinds.specs.laws.Rows.{row_changes_on, get-after_row, row_stands, row_keeps, keep_later, names_stay}
+use Rattle.ix_kinds.specs.laws.Untidies.{untidying_stands, untidying_keeps, names_untidied, keep_untidied, after_untidied, changes_untidied}
 
 -- ---- rows
 
@@ -59,7 +60,8 @@ rising_apart (r ∷ rows) rise = let b = and_parts (keys_below int_cmp r rows) (
         go true e none there rest = cc
         go false e none there rest = elim there [ inl one ↦ let wrong : true ≡ false = sym (itself one) ∙ e in cc | inr later ↦ rest none later ]
 
-apart_test : (r s : ℤ) (rows : List ℤ) → (IsIn r rows → ⊥) → IsIn s rows → int_eq s r ≡ false
+-- a row that is none of others is another than each of these
+pub apart_test : (r s : ℤ) (rows : List ℤ) → (IsIn r rows → ⊥) → IsIn s rows → int_eq s r ≡ false
 apart_test r s rows apart there = go (int_eq s r) refl
   where
     go : (b : Bool) → int_eq s r ≡ b → b ≡ false
@@ -146,14 +148,15 @@ module _ {B A D R : Type 0} (K : Indextype B A D R) (laws : IndextypeLaws K) whe
 
     pub rows_stand : (rows : List ℤ) → AreSteps K test first step t change rows → AreApart rows → ((r : ℤ) → IsIn r rows → IsRow r)
         → (f : Key → Option (List ℕ)) (ts : Tables) (xs : Names (IndexOf B)) → HaveSameColumns first ts → ((r : ℤ) → IsIn r rows → row_at ts t r ≡ row_at first t r)
-        → AreIndexesOn K test xs t names → Reads f xs rows → IndexesHold K f ts xs
+        → AreIndexesOn K test xs t names → Reads f xs rows → ((r : ℤ) → IsIn r rows → KeepEntries K test t (change r) xs) → IndexesHold K f ts xs
         → IndexesHold K (view (each of_row rows) f) (tables_after step ts rows) (indexes_after K test step ts t rows xs)
-    rows_stand [] steps apart are f ts xs alike same on reads hold = hold
-    rows_stand (r ∷ rows) steps apart are f ts xs alike same on reads hold =
+    rows_stand [] steps apart are f ts xs alike same on reads keep hold = hold
+    rows_stand (r ∷ rows) steps apart are f ts xs alike same on reads keep hold =
         let one : IsStep K test ts (step ts r) t (change r) = steps ts r (inl refl) (record { rules = hold.tables; alike = alike; row = same r (inl refl) }) in
         let is : change r ≡ row_change ts (step ts r) t r = one.told ∙ ap (row_change ts (step ts r) t) (row_is r) in
         let differ : DifferInRow ts (step ts r) t r = subst (λ (s : ℤ). DifferInRow ts (step ts r) t s) (row_is r) one.differ in
         let unseen : AreUnseen K test ts (step ts r) t xs = λ i x here table h. one.unseen x h in
+        let keep_own : KeepEntries K test t (row_change ts (step ts r) t r) xs = subst (λ (c : RowChange). KeepEntries K test t c xs) is (keep r (inl refl)) in
         let own_reads : Reads (view (rest r) f) xs (r ∷ rows) = reads_frame f xs (r ∷ rows) r reads in
         let as_told : (i : List ℕ) → row_changes_at K (view (rest r) f) xs (table_at first t).columns (row_change ts (step ts r) t r) i ≡ as_read r i =
         λ i. ap (λ (c : RowChange). row_changes_at K (view (rest r) f) xs (table_at first t).columns c i) (sym is) ∙ own_reads i r (inl refl) in
@@ -162,7 +165,7 @@ module _ {B A D R : Type 0} (K : Indextype B A D R) (laws : IndextypeLaws K) whe
         subst (λ (changes : List ℕ → List (Key × Option (List ℕ))). IndexesStand K (view (each changes names) (view (rest r) f)) (step ts r) (indexes_after_row K test t (row_change ts (step ts r) t r) xs)) whole
         (subst (λ (cs : List Column). IndexesStand K (view (each (row_changes_at K (view (rest r) f) xs cs (row_change ts (step ts r) t r)) names) (view (rest r) f)) (step ts r) (indexes_after_row K test t (row_change ts (step ts r) t r) xs))
         (same_columns first ts alike t)
-        (row_stands K laws (view (rest r) f) ts (step ts r) xs t r test names hold.tables one.rules hold.rules on differ unseen (indexes_frame K laws.alone p (rest r) f ts xs (all r) other hold.stand))) in
+        (row_stands K laws (view (rest r) f) ts (step ts r) xs t r test names hold.tables one.rules hold.rules on differ unseen keep_own (indexes_frame K laws.alone p (rest r) f ts xs (all r) other hold.stand))) in
         let held : IndexesHold K (view (of_row r) f) (step ts r) (indexes_after_row K test t (row_change ts (step ts r) t r) xs) = record {
           tables = one.rules;
           rules = row_keeps K laws ts (step ts r) xs t r test hold.tables one.rules differ unseen hold.rules;
@@ -179,10 +182,25 @@ module _ {B A D R : Type 0} (K : Indextype B A D R) (laws : IndextypeLaws K) whe
         (rows_stand rows (λ us s there. steps us s (inr there)) apart.1 (λ s there. are s (inr there)) (view (of_row r) f) (step ts r) (indexes_after_row K test t (row_change ts (step ts r) t r) xs)
         (λ q. differ.alike q ∙ alike q)
         (λ s there. differ.others t s (and_false (same_list t t) (int_eq s r) (apart_test r s rows apart.0 there)) ∙ same s (inr there))
-        (names_stay K laws test t (row_change ts (step ts r) t r) xs names stays on) later held)
+        (names_stay K laws test t (row_change ts (step ts r) t r) xs names stays on) later (λ s there. keep_later K laws test t (row_change ts (step ts r) t r) (change s) xs (keep s (inr there))) held)
 
-    -- from the first tables, indexes and entries on
-    pub rows_in_turn : (rows : List ℤ) → AreSteps K test first step t change rows → AreApart rows → ((r : ℤ) → IsIn r rows → IsRow r) → AreIndexesOn K test first_indexes t names
+    -- Rows that change or go, from the first tables, indexes and entries on, where each index is first put as one that isn't tidy.
+    pub lost_in_turn : (rows : List ℤ) → ((x : IndexOf B) → test (untidied_index K x) ≡ test x) → ((r : ℤ) → IsIn r rows → is_some (row_at first t r) ≡ true)
+        → AreSteps K test first step t change rows → AreApart rows → ((r : ℤ) → IsIn r rows → IsRow r) → AreIndexesOn K test first_indexes t names
         → IndexesHold K first_entries first first_indexes
-        → IndexesHold K (view (each of_row rows) first_entries) (tables_after step first rows) (indexes_after K test step first t rows first_indexes)
-    rows_in_turn rows steps apart are on hold = rows_stand rows steps apart are first_entries first first_indexes (λ q. refl) (λ r there. refl) on (λ i r there. refl) hold
+        → IndexesHold K (view (untidying_for K first_entries first_indexes names rows ++ each of_row rows) first_entries) (tables_after step first rows) (indexes_after K test step first t rows first_indexes)
+    lost_in_turn [] blind there steps apart are on hold = hold
+    lost_in_turn (r ∷ rows) blind there steps apart are on hold =
+        subst (λ (g : Key → Option (List ℕ)). IndexesHold K g (tables_after step first (r ∷ rows)) (indexes_after K test step first t (r ∷ rows) first_indexes))
+        (sym (view-append (each (untidying_at K first_entries first_indexes) names) (each of_row (r ∷ rows)) first_entries))
+        (subst (λ (ys : Names (IndexOf B)). IndexesHold K (view (each of_row (r ∷ rows)) (view (each (untidying_at K first_entries first_indexes) names) first_entries)) (tables_after step first (r ∷ rows)) (indexes_after K test step (step first r) t rows ys))
+        (after_untidied K laws test blind t (row_change first (step first r) t r) first_indexes (there r (inl refl)))
+        (rows_stand (r ∷ rows) steps apart are (view (each (untidying_at K first_entries first_indexes) names) first_entries) first (indexes_untidied K test t first_indexes) (λ q. refl) (λ s among. refl)
+        (names_untidied K laws test blind t first_indexes names on)
+        (λ i s among. changes_untidied K laws test blind t first_entries first_indexes names (table_at first t).columns (change s) i)
+        (λ s among. keep_untidied K laws test blind t (change s) first_indexes)
+        (record {
+          tables = hold.tables;
+          rules = untidying_keeps K laws first first_indexes t test hold.rules;
+          stand = untidying_stands K laws first_entries first first_indexes t test names on hold.stand;
+        })))

@@ -25,7 +25,7 @@ use Rattle.ct_entry.specs.laws.Parts.{int_from_eq}
 use Rattle.tb_table.specs.Tables.{Table}
 use Rattle.tb_table.specs.Rules.{IsTable}
 use Rattle.tx_settings.specs.declared.preferences.Prefs.{Prefs}
-use Rattle.tx_settings.specs.PrefsBytes.{IsPrefs}
+use Rattle.tx_settings.specs.PrefsBytes.{prefs_bytes, IsPrefs}
 use Rattle.tx_settings.specs.laws.MadeAgain.{prefs_apart}
 use Rattle.db_names.specs.declared.heads.IndexHead.{IndexHead}
 use Rattle.db_names.specs.declared.heads.IndexKind.TheVariants.{Rules}
@@ -33,8 +33,9 @@ use Rattle.db_names.specs.Heads.{index_head_bytes}
 use Rattle.db_names.specs.laws.Heads.{head_apart}
 use Rattle.ix_kinds.specs.Rows.{RowChange, ChangesBy, row_keys_of}
 use Rattle.ix_kinds.specs.Indextypes.{synced_index}
-use Rattle.ix_kinds.specs.Standing.{index_entry, HasNoEntries}
-use Rattle.ix_kinds.specs.IndextypeLaws.{by_row, StandsAlone, RowsChange, Synchronises, Creates, TellsOne, IndextypeLaws}
+use Rattle.ix_kinds.specs.Standing.{no_place, index_entry, HasNoEntries}
+use Rattle.ix_kinds.specs.IndextypeLaws.{by_row, StandsAlone, Untidies, RowsChange, Synchronises, Creates, TellsOne, IndextypeLaws}
+use Rattle.ix_kinds.specs.laws.NeverTidy.{never_tidy}
 use Rattle.ix_docmap.specs.Changes.{queue_changes, unqueue_changes}
 use Rattle.ix_docmap.specs.Marks.{Pending, Settled}
 use Rattle.q_tree.specs.ReducedQueries.{Reduced}
@@ -46,7 +47,7 @@ use Rattle.q_stored.specs.Storing.{is_stored, stored_bytes}
 use Rattle.rule_index.specs.Outcomes.{Outcome, Taken, Faulty, NamedThesauri, kept, kept_fault, is_stored_fault, limit_reached, too_large, place_fault, reduction_fault, context, outcome_of_reduction, outcome_of_verdict, outcome_seen}
 use Rattle.rule_index.specs.RuleIndexes.{RuleBody, RuleIndex, RuleMark, mark_of, rule_text, row_outcome, rules_after, all_settled, new_rules, settled, waiting}
 use Rattle.q_stored.specs.Decoding.{stored_query}
-use Rattle.rule_index.specs.Spelling.{zeros, rest_bytes, rules_bytes, rules_entry, query_value, fault_value, queue_value, query_anchors, mark_anchors, entry_anchors, anchors_at}
+use Rattle.rule_index.specs.Spelling.{no_number, rest_bytes, told_bytes, rules_bytes, rules_entry, query_value, fault_value, queue_value, query_anchors, mark_anchors, entry_anchors, anchors_at}
 use Rattle.rule_index.specs.Standing.{IsOutcome, IsRuleMark, AreRules, MarksStand}
 use Rattle.rule_index.specs.Changes.{rule_changes, set_changes, gone_changes, lost_changes, settle_each_changes, entry_change}
 use Rattle.rule_index.specs.Kind.{rule_indexes}
@@ -95,9 +96,11 @@ mark_is_row t x is_t is r marked = let there = some_value (get t.rows r) (sym (i
 
 -- ---- its entry
 
--- is what its head and the rest are
-pub entry_is : (x : RuleIndex) → rules_entry x ≡ index_entry rule_indexes x
-entry_is x = sym (append_assoc (3 ∷ text_bytes x.table) (x.column ∷ []) (rest_bytes x.prefs))
+-- is what its head and the rest are, and no place
+pub entry_is : (x : RuleIndex) → rules_entry x ≡ index_entry rule_indexes x no_place
+entry_is x =
+    sym (append_assoc (3 ∷ text_bytes x.table) (x.column ∷ []) (rest_bytes x.prefs))
+    ∙ ap (λ (l : List ℕ). index_head_bytes Rules x.table x.column ++ (0 ∷ l)) (sym (append_assoc (prefs_bytes x.prefs) no_number no_place))
 
 abbrev pub head_of : RuleIndex → IndexHead
 head_of x = record { kind = Rules; target = record { table = x.table; column = x.column } }
@@ -107,12 +110,15 @@ pub record SameParts (x y : RuleIndex) : Type 0 where
   pub head : head_of x ≡ head_of y
   pub prefs : x.prefs ≡ y.prefs
 
-pub parts_one : (x y : RuleIndex) → IsPrefs x.prefs → IsPrefs y.prefs → index_entry rule_indexes x ≡ index_entry rule_indexes y → SameParts x y
-parts_one x y x_prefs y_prefs e =
-    let head = head_apart (head_of x) (head_of y) (rest_bytes x.prefs) (rest_bytes y.prefs) e in
+pub parts_one : (x y : RuleIndex) (p q : List ℕ) → IsPrefs x.prefs → IsPrefs y.prefs → index_entry rule_indexes x p ≡ index_entry rule_indexes y q → SameParts x y
+parts_one x y p q x_prefs y_prefs e =
+    let x_rest : List ℕ = told_bytes x.prefs ++ p in
+    let y_rest : List ℕ = told_bytes y.prefs ++ q in
+    let head = head_apart (head_of x) (head_of y) x_rest y_rest e in
     let head_is : index_head_bytes Rules x.table x.column ≡ index_head_bytes Rules y.table y.column = ap (λ (h : IndexHead). index_head_bytes Rules h.target.table h.target.column) head in
-    let rest = append_cancel_left (index_head_bytes Rules y.table y.column) (rest_bytes x.prefs) (rest_bytes y.prefs) (ap (λ (l : List ℕ). l ++ rest_bytes x.prefs) (sym head_is) ∙ e) in
-    record { head = head; prefs = (prefs_apart x.prefs y.prefs zeros zeros x_prefs y_prefs (cons_parts _ _ _ _ rest).1).0 }
+    let rest = append_cancel_left (index_head_bytes Rules y.table y.column) x_rest y_rest (ap (λ (l : List ℕ). l ++ x_rest) (sym head_is) ∙ e) in
+    let spelt = sym (append_assoc (prefs_bytes x.prefs) no_number p) ∙ (cons_parts _ _ _ _ rest).1 ∙ append_assoc (prefs_bytes y.prefs) no_number q in
+    record { head = head; prefs = (prefs_apart x.prefs y.prefs (no_number ++ p) (no_number ++ q) x_prefs y_prefs spelt).0 }
 
 -- ---- a row changes
 
@@ -297,9 +303,9 @@ module _ (f : Key → Option (List ℕ)) (i : List ℕ) (x y : RuleIndex) (t u :
       go None (Some m) e d = of_row (mark_is_row u y is_u y_is r (ap is_some d))
       go (Some m) p e d = of_row (mark_is_row t x is_t x_is r (ap is_some e))
 
-  same_index : IsPrefs x.prefs → IsPrefs y.prefs → index_entry rule_indexes x ≡ index_entry rule_indexes y → x ≡ y
-  same_index x_prefs y_prefs entry =
-      let parts = parts_one x y x_prefs y_prefs entry in
+  same_index : IsPrefs x.prefs → IsPrefs y.prefs → (p q : List ℕ) → index_entry rule_indexes x p ≡ index_entry rule_indexes y q → x ≡ y
+  same_index x_prefs y_prefs p q entry =
+      let parts = parts_one x y p q x_prefs y_prefs entry in
       let marks = same_map int_cmp_total int_cmp-IsAntisymmetric x.body.marks y.body.marks one_of_row in
       λ j. record { table = (parts.head j).target.table; column = (parts.head j).target.column; prefs = parts.prefs j; body = record { marks = marks j } }
 
@@ -320,16 +326,18 @@ rules_alone = record {
   is_alike = λ x t u alike is. record { marks = λ r. is.marks r ∙ sym (alike.rows r); each = is.each };
 }
 
+-- one is never tidy
+rules_untidy : Untidies rule_indexes
+rules_untidy = never_tidy rule_indexes (λ b. refl) (λ b. refl)
+
 rules_rows : RowsChange rule_indexes
 rules_rows = record {
-  same = λ c n x. record { kind = refl; own = λ k. refl; looks = λ column. refl };
-  own = λ f i x columns c n.
-      let its = row_on i c.row c.old c.new (anchors_at f i c.row) in
-      record {
-        on = its.on;
-        of = wider (rule_changes i c.row c.old c.new (anchors_at f i c.row)) its.of;
-        entry = not_own (rule_changes i c.row c.old c.new (anchors_at f i c.row)) its.of i (Some (index_entry rule_indexes x));
-      };
+  same = λ c n x. record { kind = refl; own = λ k. refl; looks = λ column. refl; resumes = λ place resumes. resumes };
+  loose = λ c n b untidy. refl;
+  own = λ f i x columns c.
+      let its = row_on i c.row c.old c.new (anchors_at f i c.row) in record { on = its.on; of = wider (rule_changes i c.row c.old c.new (anchors_at f i c.row)) its.of };
+  entry = λ f i x columns c n place keeps.
+      not_own (rule_changes i c.row c.old c.new (anchors_at f i c.row)) (row_on i c.row c.old c.new (anchors_at f i c.row)).of i (Some (index_entry rule_indexes x place));
   is = λ t u x c n is_t is_u by is. row_is t u x c n by is;
   stands = λ f i x t u c n is_t is_u by cost is stand. row_stands f i x t u c.row c.old c.new is_t is_u by.old by.new is stand;
   read_agree = λ f g i x r same. ap entry_anchors (same (key kind.Rules i (row_part r)) refl refl);
@@ -339,23 +347,28 @@ rules_rows = record {
 
 rules_sync : Synchronises rule_indexes
 rules_sync = record {
-  same = λ d t x. record { kind = refl; own = λ k. refl; looks = λ column. refl };
-  own = λ d t i x.
+  same = λ d t x. record { kind = refl; own = λ k. refl; looks = λ column. refl; resumes = λ place resumes. resumes };
+  own = λ d t i x place.
       let changes = settle_each_changes i (row_outcome d t x.column x.prefs) (waiting x.body) in
-      let its = settled_on i (row_outcome d t x.column x.prefs) (waiting x.body) in
-      record { on = its.on; of = wider changes its.of; entry = not_own changes its.of i (Some (index_entry rule_indexes x)) };
+      let its = settled_on i (row_outcome d t x.column x.prefs) (waiting x.body) in record { on = its.on; of = wider changes its.of };
+  entry = λ d t i x place.
+      not_own (settle_each_changes i (row_outcome d t x.column x.prefs) (waiting x.body)) (settled_on i (row_outcome d t x.column x.prefs) (waiting x.body)).of i (Some (index_entry rule_indexes x place));
   is = λ d t x is_t prefs can is. synced_is (row_outcome d t x.column x.prefs) (λ r. seen_is d x.prefs (rule_text t x.column r)) t x (synced_index rule_indexes d t x) refl is;
-  stands = λ f d t i x is_t prefs can is stand. synced_stands f i (row_outcome d t x.column x.prefs) x.body (mark_is_row t x is_t is) stand;
+  stands = λ f d t i x place is_t prefs can is stand. synced_stands f i (row_outcome d t x.column x.prefs) x.body (mark_is_row t x is_t is) stand;
 }
 
 rules_create : Creates rule_indexes
 rules_create = record {
   on = λ a d t i target p. (refl, (come_on i (row_outcome d t target.column p) (row_keys_of t)).on);
   of = λ a d t i target p. (refl, wider _ (come_on i (row_outcome d t target.column p) (row_keys_of t)).of);
-  entry = λ a d t i target p old.
-      not_own _ (come_on i (row_outcome d t target.column p) (row_keys_of t)).of i (told (entry_change i target.table target.column p ∷ []) (key kind.Indexes i []) old)
-      ∙ ap (λ (b : Bool). cond b (entry_change i target.table target.column p).1 old) (key_same (key kind.Indexes i []))
-      ∙ ap Some (entry_is (record { table = target.table; column = target.column; prefs = p; body = new_rules (row_outcome d t target.column p) (row_keys_of t) }));
+  entry = λ a d t i target p. (
+    no_place,
+    refl,
+    λ old.
+        not_own _ (come_on i (row_outcome d t target.column p) (row_keys_of t)).of i (told (entry_change i target.table target.column p ∷ []) (key kind.Indexes i []) old)
+        ∙ ap (λ (b : Bool). cond b (entry_change i target.table target.column p).1 old) (key_same (key kind.Indexes i []))
+        ∙ ap Some (entry_is (record { table = target.table; column = target.column; prefs = p; body = new_rules (row_outcome d t target.column p) (row_keys_of t) })),
+  );
   is = λ a d t target p is texts prefs asks can.
       let outcome = row_outcome d t target.column p in
       record {
@@ -367,8 +380,8 @@ rules_create = record {
 }
 
 rules_tell : TellsOne rule_indexes
-rules_tell = record { one = λ f i x y t u is_t is_u x_is y_is x_prefs y_prefs same entry x_stands y_stands. same_index f i x y t u is_t is_u x_is y_is x_stands y_stands x_prefs y_prefs entry }
+rules_tell = record { one = λ f i x y t u is_t is_u x_is y_is x_prefs y_prefs same p q x_resumes y_resumes entry x_stands y_stands. same_index f i x y t u is_t is_u x_is y_is x_stands y_stands x_prefs y_prefs p q entry }
 
 -- RULE INDEXES GIVE WHAT A KIND OF INDEXES HAS TO GIVE.
 pub rules_laws : IndextypeLaws rule_indexes
-rules_laws = record { alone = rules_alone; rows = rules_rows; syncs = rules_sync; creates = rules_create; one = rules_tell }
+rules_laws = record { alone = rules_alone; untidies = rules_untidy; rows = rules_rows; syncs = rules_sync; creates = rules_create; one = rules_tell }

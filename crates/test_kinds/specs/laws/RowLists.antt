@@ -24,8 +24,9 @@ use Rattle.db_names.specs.declared.heads.IndexKind.TheVariants.{Rules}
 use Rattle.db_names.specs.Heads.{index_head_bytes}
 use Rattle.db_names.specs.laws.Heads.{head_apart}
 use Rattle.ix_kinds.specs.Indextypes.{IndexOf}
-use Rattle.ix_kinds.specs.Standing.{is_of_part, is_entry}
-use Rattle.ix_kinds.specs.IndextypeLaws.{StandsAlone, RowsChange, Synchronises, Creates, TellsOne, IndextypeLaws}
+use Rattle.ix_kinds.specs.Standing.{is_of_part, is_entry, no_place, index_entry}
+use Rattle.ix_kinds.specs.IndextypeLaws.{StandsAlone, Untidies, RowsChange, Synchronises, Creates, TellsOne, IndextypeLaws}
+use Rattle.ix_kinds.specs.laws.NeverTidy.{never_tidy}
 use Rattle.test_kinds.specs.RowLists.{is_list, entry_or_none, list_row, list_change, list_rows, list_entry, new_list, ListsRows, row_lists}
 use Rattle.ix_kinds.specs.Rows.{row_keys_of}
 
@@ -126,12 +127,12 @@ module _ (f : Key → Option (List ℕ)) (i : List ℕ) (t : Table) (is : IsTabl
 abbrev head_of : IndexOf (Unit {0}) → IndexHead
 head_of x = record { kind = Rules; target = record { table = x.table; column = x.column } }
 
-one_list : (x y : IndexOf (Unit {0})) → IsPrefs x.prefs → IsPrefs y.prefs → list_entry x ≡ list_entry y → x ≡ y
-one_list x y x_prefs y_prefs e =
-    let head = head_apart (head_of x) (head_of y) (prefs_bytes x.prefs) (prefs_bytes y.prefs) e in
+one_list : (D : Type 0) (x y : IndexOf (Unit {0})) (p q : List ℕ) → IsPrefs x.prefs → IsPrefs y.prefs → index_entry (row_lists {D = D}) x p ≡ index_entry (row_lists {D = D}) y q → x ≡ y
+one_list D x y p q x_prefs y_prefs e =
+    let head = head_apart (head_of x) (head_of y) (prefs_bytes x.prefs ++ p) (prefs_bytes y.prefs ++ q) e in
     let head_is : index_head_bytes Rules x.table x.column ≡ index_head_bytes Rules y.table y.column = ap (λ (h : IndexHead). index_head_bytes Rules h.target.table h.target.column) head in
-    let same = append_cancel_left (index_head_bytes Rules y.table y.column) (prefs_bytes x.prefs) (prefs_bytes y.prefs) (ap (λ (l : List ℕ). l ++ prefs_bytes x.prefs) (sym head_is) ∙ e) in
-    let prefs = prefs_apart x.prefs y.prefs [] [] x_prefs y_prefs (ap (λ (l : List ℕ). l ++ []) same) in
+    let same = append_cancel_left (index_head_bytes Rules y.table y.column) (prefs_bytes x.prefs ++ p) (prefs_bytes y.prefs ++ q) (ap (λ (l : List ℕ). l ++ (prefs_bytes x.prefs ++ p)) (sym head_is) ∙ e) in
+    let prefs = prefs_apart x.prefs y.prefs p q x_prefs y_prefs same in
     λ j. record { table = (head j).target.table; column = (head j).target.column; prefs = prefs.0 j; body = tt }
 
 module _ {D : Type 0} where
@@ -143,14 +144,19 @@ module _ {D : Type 0} where
     is_alike = λ x t u alike is. tt;
   }
 
+  lists_untidy : Untidies (row_lists {D = D})
+  lists_untidy = never_tidy (row_lists {D = D}) (λ b. refl) (λ b. refl)
+
   lists_rows : RowsChange (row_lists {D = D})
   lists_rows = record {
-    same = λ c n x. record { kind = refl; own = λ k. refl; looks = λ column. refl };
-    own = λ f i x columns c n. record {
+    same = λ c n x. record { kind = refl; own = λ k. refl; looks = λ column. refl; resumes = λ place resumes. resumes };
+    loose = λ c n b untidy. refl;
+    own = λ f i x columns c. record {
       on = change_on i c.row (is_some c.old) (is_some c.new);
       of = weaker (list_change i c.row (is_some c.old) (is_some c.new)) (change_of i c.row (is_some c.old) (is_some c.new));
-      entry = told_frame is_list (list_change i c.row (is_some c.old) (is_some c.new)) (key kind.Indexes i []) (Some (list_entry x)) (change_of i c.row (is_some c.old) (is_some c.new)) refl;
     };
+    entry = λ f i x columns c n place keeps.
+        told_frame is_list (list_change i c.row (is_some c.old) (is_some c.new)) (key kind.Indexes i []) (Some (index_entry (row_lists {D = D}) x place)) (change_of i c.row (is_some c.old) (is_some c.new)) refl;
     is = λ t u x c n is_t is_u by is. tt;
     stands = λ f i x t u c n is_t is_u by cost is lists. changed f i t u c.row by.others lists is_t is_u c.old c.new by.old by.new;
     read_agree = λ f g i x r same. refl;
@@ -160,27 +166,32 @@ module _ {D : Type 0} where
 
   lists_sync : Synchronises (row_lists {D = D})
   lists_sync = record {
-    same = λ d t x. record { kind = refl; own = λ k. refl; looks = λ column. refl };
-    own = λ d t i x. record { on = tt; of = tt; entry = refl };
+    same = λ d t x. record { kind = refl; own = λ k. refl; looks = λ column. refl; resumes = λ place resumes. resumes };
+    own = λ d t i x place. record { on = tt; of = tt };
+    entry = λ d t i x place. refl;
     is = λ d t x is_t prefs room is. tt;
-    stands = λ f d t i x is_t prefs room is lists. lists;
+    stands = λ f d t i x place is_t prefs room is lists. lists;
   }
 
   lists_create : Creates (row_lists {D = D})
   lists_create = record {
     on = λ a d t i target prefs. (refl, all_on-each i (λ r. list_row i r true) (λ r. (refl, tt)) (row_keys_of t));
     of = λ a d t i target prefs. (refl, all_each (λ k. is_entry k || is_list k) (λ r. list_row i r true) (λ r. (refl, tt)) (row_keys_of t));
-    entry = λ a d t i target prefs old.
-        told_frame is_list (list_rows i (row_keys_of t)) (key kind.Indexes i []) (told (put_value (key kind.Indexes i []) (list_entry (new_list target prefs)) ∷ []) (key kind.Indexes i []) old)
-        (all_each is_list (λ r. list_row i r true) (λ r. (refl, tt)) (row_keys_of t)) refl
-        ∙ ap (λ (b : Bool). cond b (Some (list_entry (new_list target prefs))) old) (key_same (key kind.Indexes i []));
+    entry = λ a d t i target prefs. (
+      no_place,
+      refl,
+      λ old.
+          told_frame is_list (list_rows i (row_keys_of t)) (key kind.Indexes i []) (told (put_value (key kind.Indexes i []) (list_entry (new_list target prefs)) ∷ []) (key kind.Indexes i []) old)
+          (all_each is_list (λ r. list_row i r true) (λ r. (refl, tt)) (row_keys_of t)) refl
+          ∙ ap (λ (b : Bool). cond b (Some (list_entry (new_list target prefs))) old) (key_same (key kind.Indexes i [])),
+    );
     is = λ a d t target prefs is texts prefs_are asks can. tt;
     stands = λ f a d t i target prefs is texts prefs_are asks can none.
         created (view (put_value (key kind.Indexes i []) (list_entry (new_list target prefs)) ∷ []) f) i t is (λ r. none (key kind.Rules i (row_part r)) refl refl);
   }
 
   lists_tell : TellsOne (row_lists {D = D})
-  lists_tell = record { one = λ f i x y t u is_t is_u x_is y_is x_prefs y_prefs same entry x_lists y_lists. one_list x y x_prefs y_prefs entry }
+  lists_tell = record { one = λ f i x y t u is_t is_u x_is y_is x_prefs y_prefs same p q x_resumes y_resumes entry x_lists y_lists. one_list D x y p q x_prefs y_prefs entry }
 
   pub lists_keep : IndextypeLaws (row_lists {D = D})
-  lists_keep = record { alone = lists_alone; rows = lists_rows; syncs = lists_sync; creates = lists_create; one = lists_tell }
+  lists_keep = record { alone = lists_alone; untidies = lists_untidy; rows = lists_rows; syncs = lists_sync; creates = lists_create; one = lists_tell }
