@@ -1,6 +1,9 @@
+pub mod PlaceSteps
 pub mod EntrySteps
 pub mod MarkSteps
 pub mod GatherSteps
 pub mod NoteSteps
+pub mod UntidySteps
 pub mod ShapeSteps
 pub mod SyncSteps
+pub mod PortionSteps

@@ -16,7 +16,9 @@ use Rattle.ix_posting.specs.Forms.{PlaceForm}
 use Rattle.ix_posting.specs.Rows.{IsPostingRowOf, posting_bytes_of}
 use Rattle.ix_context.specs.declared.entries.IndexEntry.{IndexEntry}
 use Rattle.ix_context.specs.Spelling.{SpellsIndex}
-use Rattle.ix_context.specs.Shapes.{StartsAt, IsRowFrom, IsSpanRowFrom, IsPostingPart, IsSpanPart, IsContextShape}
+use Rattle.ix_context.specs.Places.{place_bytes, tidiness_of}
+use Rattle.ix_context.specs.laws.Places.{place_read_is}
+use Rattle.ix_context.specs.Shapes.{IsIndexEntry, StartsAt, IsRowFrom, IsSpanRowFrom, IsPostingPart, IsSpanPart, IsContextShape}
 
 -- what doesn't hold is not told to
 pub is_not : (A : Type 0) → (A → ⊥) → IsTrue false ↔ A
@@ -55,7 +57,7 @@ no_section part section document small is none d doc has =
 
 pub is_entry : (part value : List ℕ) (e : IndexEntry) → SpellsIndex (Some value) (Some e) → IsTrue (length part == 0) ↔ IsContextShape kind.Indexes part value
 is_entry part value e is = (
-  λ empty. (none part (eqb-true (length part) 0 empty), record { table = e.target.table; column = e.target.column; prefs = e.prefs; next = e.next_document; named = is.0; place = is.1; are = is.2; fits = is.3; spelt = same is.4 }),
+  λ empty. (none part (eqb-true (length part) 0 empty), shaped),
   λ shape. eq-eqb (length part) 0 (ap length shape.0),
 )
   where
@@ -66,8 +68,24 @@ is_entry part value e is = (
     same : {x y : List ℕ} → Some x ≡ Some y → x ≡ y
     same e = cc
 
+    shaped : IsIndexEntry value
+    shaped = record {
+      table = e.target.table;
+      column = e.target.column;
+      prefs = e.prefs;
+      next = e.next_document;
+      tidiness = tidiness_of e.tidiness;
+      place = place_bytes e.place;
+      named = is.0;
+      low = is.1;
+      are = is.2;
+      fits = is.3;
+      resumes = place_read_is e.place is.4;
+      spelt = same is.5;
+    }
+
 pub no_entry : (part value : List ℕ) → SpellsIndex (Some value) None → IsContextShape kind.Indexes part value → ⊥
-no_entry part value none (empty, is) = none is.table is.column is.prefs is.next is.named is.place is.are is.fits (ap Some is.spelt)
+no_entry part value none (empty, is) = none is.table is.column is.prefs is.next is.tidiness is.place is.named is.low is.are is.fits is.resumes (ap Some is.spelt)
 
 module _ {P : Type 0} (form : PlaceForm P) (value : List ℕ) (document : ℕ) where
   -- the row that was read, by its first document

@@ -8,8 +8,8 @@ use Rattle.std.specs.FinMap.{from_sorted, get-from_sorted}
 use Rattle.ct_base.specs.declared.numbers.RowKey.{RowKey}
 use Rattle.ct_entry.specs.declared.kinds.Kind.{Kind}
 use Rattle.ct_entry.specs.declared.kinds.Kind.TheVariants as kind
-use Rattle.ct_entry.specs.Keys.{Key, key}
-use Rattle.ct_entry.specs.Changes.{put_value, spell}
+use Rattle.ct_entry.specs.Keys.{Key}
+use Rattle.ct_entry.specs.Changes.{spell}
 use Rattle.ct_entry.specs.Maps.{Names}
 use Rattle.ct_entry.specs.Each.{each, numbered}
 use Rattle.tb_table.specs.declared.columns.Target.{Target}
@@ -17,13 +17,14 @@ use Rattle.tb_table.specs.Tables.{Tables}
 use Rattle.tx_settings.specs.declared.preferences.Prefs.{Prefs}
 use Rattle.ix_posting.specs.Forms.{PlaceForm, number_form, pair_form}
 use Rattle.ix_posting.specs.Rows.{posting_bytes_of, posting_bytes}
+use Rattle.ix_rows.specs.Stores.{Untidy}
 use Rattle.ix_rows.specs.PlacedRows.{document_number}
 use Rattle.ix_rows.specs.Spelling.{greedy}
 use Rattle.ix_rows.specs.Gathering.{terms_of, gathered_rows, rows_put}
 use Rattle.ix_docmap.specs.Changes.{mark_changes, map_settle_changes}
 use Rattle.ix_context.specs.Documents.{Postings, postings_by, document_with}
 use Rattle.ix_context.specs.Indexes.{target_text}
-use Rattle.ix_context.specs.Spelling.{index_bytes}
+use Rattle.ix_context.specs.Spelling.{index_change}
 use Rattle.std.proofs.Common.{ap}
 use Rattle.ct_bytes.specs.Varints.{varint}
 
@@ -53,11 +54,11 @@ abbrev pub settle_each_changes : List ℕ → ℕ → List ℤ → List (Key × 
 settle_each_changes i first rows = each (map_settle_changes i) (numbered first rows)
 
 -- each row that waits becomes a document, with its postings, of an index on a target that reads texts by these preferences and gives this document next, which then has given
--- these, where rows have these texts; nothing where no row waits
-abbrev pub settled_changes : List ℕ → Target → Prefs → (ℤ → Option (List ℕ)) → ℕ → List ℤ → List (Key × Option (List ℕ))
-settled_changes i target prefs text first [] = []
-settled_changes i target prefs text first (r ∷ rs) =
-    settle_each_changes i first (r ∷ rs) ++ postings_changes i (postings_by prefs text) first (r ∷ rs) ++ put_value (key kind.Indexes i []) (index_bytes target.table target.column prefs (first + length (r ∷ rs))) ∷ []
+-- these and is untidy, where rows have these texts, and its entry ends in this place; nothing where no row waits
+abbrev pub settled_changes : List ℕ → Target → Prefs → List ℕ → (ℤ → Option (List ℕ)) → ℕ → List ℤ → List (Key × Option (List ℕ))
+settled_changes i target prefs place text first [] = []
+settled_changes i target prefs place text first (r ∷ rs) =
+    settle_each_changes i first (r ∷ rs) ++ postings_changes i (postings_by prefs text) first (r ∷ rs) ++ index_change i target prefs (first + length (r ∷ rs)) Untidy place ∷ []
 
 -- ---- what calls add to a batch
 
@@ -84,9 +85,9 @@ abbrev pub ChangesWithin : ℕ → ℕ → List (Key × Option (List ℕ)) → O
 ChangesWithin most count changes found = MatchOption found (most < count) (λ batch. (count ≤ most) × (batch ≡ spell changes))
 
 -- by which rows that wait become documents of an index on this target that gives this document next, where the next one after them has a number of 32 bits
-abbrev pub AreSettleChanges : Tables → List ℕ → Target → Prefs → ℕ → List RowKey → Option (List (List ℕ × Option (List ℕ))) → Type 0
-AreSettleChanges ts i target prefs first rows found =
-    ChangesWithin (2 ^ 32 - 1) (first + length rows) (settled_changes i target prefs (target_text ts target) first (map (λ r. r.0) rows)) found
+abbrev pub AreSettleChanges : Tables → List ℕ → Target → Prefs → List ℕ → ℕ → List RowKey → Option (List (List ℕ × Option (List ℕ))) → Type 0
+AreSettleChanges ts i target prefs place first rows found =
+    ChangesWithin (2 ^ 32 - 1) (first + length rows) (settled_changes i target prefs place (target_text ts target) first (map (λ r. r.0) rows)) found
 
 -- computed examples
 -- two rows that have the word `a` at the position 1 become the documents 1 and 2: it has one row of postings, under the first of them
@@ -104,5 +105,5 @@ unfolding varint
 one_row_of_two_documents = ap rows_of_a (get-from_sorted (slice_cmp nat_cmp) ((0 ∷ 1 ∷ codes "a", 1 ∷ []) ∷ []) (0 ∷ 1 ∷ codes "a") tt)
 
 -- nothing is put where no row waits
-nothing_to_settle : (target : Target) (prefs : Prefs) (text : ℤ → Option (List ℕ)) → settled_changes (codes "di") target prefs text 1 [] ≡ []
-nothing_to_settle target prefs text = refl
+nothing_to_settle : (target : Target) (prefs : Prefs) (place : List ℕ) (text : ℤ → Option (List ℕ)) → settled_changes (codes "di") target prefs place text 1 [] ≡ []
+nothing_to_settle target prefs place text = refl

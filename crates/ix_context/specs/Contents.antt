@@ -1,12 +1,12 @@
 -- A content that stands for tables, and for a CONTEXT index on one of them.
-use Rattle.std.specs.Prelude.{ℕ, ◌≡◌, List, [], ◌∷◌, ◌++◌, Some, codes, refl}
+use Rattle.std.specs.Prelude.{ℕ, ◌≡◌, List, [], ◌∷◌, ◌++◌, Option, Some, codes, refl}
 use Rattle.std.specs.Option.{option_map}
 use Rattle.std.specs.FinMap.{get}
 use Rattle.std.proofs.Common.{ap, ◌∙◌}
 use Rattle.ct_bytes.specs.Varints.{varint}
 use Rattle.ct_keep.specs.Content.{Content}
 use Rattle.ct_entry.specs.declared.kinds.Kind.TheVariants as kind
-use Rattle.ct_entry.specs.Keys.{key, at, HasKeysOnly}
+use Rattle.ct_entry.specs.Keys.{Key, key, at, HasKeysOnly}
 use Rattle.tb_table.specs.Tables.{Table, Tables, docs_columns, docs_table}
 use Rattle.tb_table.specs.Spelling.{columns_bytes, TablesStand}
 use Rattle.tb_table.specs.Rules.{AreTables}
@@ -15,6 +15,7 @@ use Rattle.ix_kinds.specs.Rows.{table_at}
 use Rattle.ix_kinds.specs.Targets.{IsTarget}
 use Rattle.ix_kinds.specs.Indextypes.{IndexOf}
 use Rattle.ix_context.specs.Indexes.{ContextIndex}
+use Rattle.ix_context.specs.Places.{IsPlace}
 use Rattle.ix_context.specs.Contexts.{IsContext, context_entry, context_stands}
 
 -- The content spells the tables, which keep their rules.
@@ -23,10 +24,16 @@ pub record HoldsTables (m : Content) (ts : Tables) : Type 0 where
   pub stand : TablesStand (at m) ts
   pub rules : AreTables ts
 
+-- It has the entry of the index under this name, with some place at its end where an optimisation goes on.
+pub record HasContextEntry (f : Key → Option (List ℕ)) (i : List ℕ) (x : IndexOf ContextIndex) : Type 0 where
+  pub place : List ℕ
+  pub resumes : IsPlace place
+  pub whole : f (key kind.Indexes i []) ≡ Some (context_entry x place)
+
 -- It spells the tables, and the CONTEXT index of this name over its table, which keeps its rules. What other names have doesn't matter.
 pub record HoldsContext (m : Content) (ts : Tables) (i : List ℕ) (x : IndexOf ContextIndex) : Type 0 where
   pub tables : HoldsTables m ts
-  pub entry : at m (key kind.Indexes i []) ≡ Some (context_entry x)
+  pub entry : HasContextEntry (at m) i x
   pub stands : context_stands (at m) i x (table_at ts x.table)
   pub target : IsTarget ts x.table x.column
   pub prefs : IsPrefs x.prefs

@@ -1,7 +1,9 @@
 -- CONTEXT as a kind of indexes.
 use Rattle.std.specs.Prelude.{ℕ, ℤ, ◌≡◌, ◌≤◌, ◌+◌, ◌==◌, nat_le, List, [], ◌∷◌, ◌++◌, length, sum_by, is_some, Option, Some, None, pos, codes, refl}
 use Rattle.std.specs.Int.{to_be_bytes, w32}
-use Rattle.std.specs.FinMap.{get, insert, remove, entries}
+use Rattle.std.specs.Ordering.{int_cmp}
+use Rattle.std.specs.FinMap.{get, insert, remove, entries, from_sorted, get-from_sorted}
+use Rattle.std.proofs.Common.{ap}
 use Rattle.ct_base.specs.declared.lists.Value.{Value}
 use Rattle.ct_bytes.specs.RowKeys.{row_bytes}
 use Rattle.ct_entry.specs.declared.kinds.Kind.TheVariants as kind
@@ -24,27 +26,27 @@ use Rattle.ix_context.specs.declared.ranges.KeyRange.{KeyRange}
 use Rattle.ix_context.specs.Indexes.{ContextIndex, mark_limit, no_part, part_after_loss, part_with_marks, all_settled, settled_rows, waiting_rows, texts_in, rows_within, HasAllRows}
 use Rattle.ix_context.specs.Documents.{Postings, text_postings, postings_by, document_cost}
 use Rattle.ix_context.specs.Standing.{PartStands}
+use Rattle.ix_context.specs.Places.{IsPlace, tidiness_byte, is_tidy, no_place}
 use Rattle.ix_context.specs.Spelling.{index_bytes, is_context_part}
 use Rattle.ix_context.specs.Changes.{postings_changes, mark_each_changes, settle_each_changes}
 
 -- ---- its rules
 
--- Each row of the table has a mark, and there is no other; no more marks were made than there are numbers; and for now nothing makes it tidy.
+-- Each row of the table has a mark, and there is no other; and no more marks were made than there are numbers.
 pub record IsContext (t : Table) (x : IndexOf ContextIndex) : Type 0 where
   pub marks : (r : ℤ) → is_some (get x.body.marks r) ≡ is_some (get t.rows r)
   pub numbers : x.body.part.given ≤ mark_limit
-  pub untidy : x.body.part.tidiness ≡ Untidy
 
 -- ---- its entries
 
--- what the entry of the index has behind its head: that it isn't transactional, its preferences, that it has no sub-index, the next document, its
--- tidiness 0, and no place to resume at
+-- what the entry of the index has behind its head, but for the place: that it isn't transactional, its preferences, that it has no sub-index, the
+-- next document, and how tidy it is
 abbrev pub context_rest : IndexOf ContextIndex → List ℕ
-context_rest x = 0 ∷ prefs_bytes x.prefs ++ (0 ∷ (to_be_bytes w32 (x.body.part.given + 1) ++ 0 ∷ 0 ∷ 0 ∷ []))
+context_rest x = 0 ∷ prefs_bytes x.prefs ++ (0 ∷ (to_be_bytes w32 (x.body.part.given + 1) ++ tidiness_byte x.body.part.tidiness ∷ []))
 
--- the whole of it
-abbrev pub context_entry : IndexOf ContextIndex → List ℕ
-context_entry x = index_bytes x.table x.column x.prefs (x.body.part.given + 1)
+-- the whole of it, with the place where an optimisation goes on
+abbrev pub context_entry : IndexOf ContextIndex → List ℕ → List ℕ
+context_entry x place = index_bytes x.table x.column x.prefs (x.body.part.given + 1) x.body.part.tidiness place
 
 abbrev pub context_stands : (Key → Option (List ℕ)) → List ℕ → IndexOf ContextIndex → Table → Type 0
 context_stands f i x t = PartStands f i (postings_by x.prefs (texts_in t x.column)) (get x.body.marks) x.body.part
@@ -77,17 +79,22 @@ context_changes i r None (Some new) document = queue_changes i r
 context_changes i r (Some old) (Some new) document = changed_changes i r document
 context_changes i r (Some old) None document = gone_changes i r document
 
+-- Before a row is lost, it is tidy no more.
+abbrev pub context_untidied : ContextIndex → ContextIndex
+context_untidied c = record c { part = record c.part { tidiness = Untidy } }
+
 -- ---- it is synchronised, and made
 
 abbrev pub context_synced : ContextIndex → ContextIndex
 context_synced c = record { part = part_with_marks (length (waiting_rows c.marks)) c.part; marks = all_settled c.marks }
 
--- each row that waits becomes a document, with its postings, and the index has given these; nothing where no row waits
-abbrev pub context_sync_changes : List ℕ → IndexOf ContextIndex → (ℤ → Option (List ℕ)) → List ℤ → List (Key × Option (List ℕ))
-context_sync_changes i x text [] = []
-context_sync_changes i x text (r ∷ rs) =
+-- each row that waits becomes a document, with its postings, and the index has given these, with the place that its entry ended in; nothing where no
+-- row waits
+abbrev pub context_sync_changes : List ℕ → IndexOf ContextIndex → List ℕ → (ℤ → Option (List ℕ)) → List ℤ → List (Key × Option (List ℕ))
+context_sync_changes i x place text [] = []
+context_sync_changes i x place text (r ∷ rs) =
     settle_each_changes i (x.body.part.given + 1) (r ∷ rs) ++ postings_changes i (postings_by x.prefs text) (x.body.part.given + 1) (r ∷ rs)
-    ++ put_value (key kind.Indexes i []) (context_entry (record x { body = context_synced x.body })) ∷ []
+    ++ put_value (key kind.Indexes i []) (context_entry (record x { body = context_synced x.body }) place) ∷ []
 
 -- a new index settles each row in its range
 abbrev pub new_context : Table → KeyRange → ContextIndex
@@ -95,7 +102,7 @@ new_context t range = record { part = part_with_marks (length (rows_within t ran
 
 abbrev pub context_create_changes : Table → List ℕ → Target → Prefs → KeyRange → List (Key × Option (List ℕ))
 context_create_changes t i target prefs range =
-    put_value (key kind.Indexes i []) (context_entry (record { table = target.table; column = target.column; prefs = prefs; body = new_context t range }))
+    put_value (key kind.Indexes i []) (context_entry (record { table = target.table; column = target.column; prefs = prefs; body = new_context t range }) no_place)
     ∷ (mark_each_changes i 1 (rows_within t range) ++ postings_changes i (postings_by prefs (texts_in t target.column)) 1 (rows_within t range))
 
 -- ---- the kind
@@ -108,8 +115,11 @@ context {D} = record {
   looks = λ x column. column == x.column;
   is = IsContext;
   unwasted = λ c. record c { part = record c.part { waste = 0 } };
+  tidy = λ c. is_tidy c.part.tidiness;
+  untidied = context_untidied;
   own = λ c k. is_context_part k;
   rest = context_rest;
+  resumes = λ c. IsPlace;
   stands = context_stands;
   room = context_room;
   cost = λ i x vs. document_cost i (text_postings x.prefs (text_in_column vs x.column));
@@ -118,7 +128,7 @@ context {D} = record {
   row_changes = λ i x columns change document. context_changes i change.row change.old change.new document;
   can_sync = λ x. nat_le (x.body.part.given + length (waiting_rows x.body.marks)) mark_limit;
   after_sync = λ d t x. context_synced x.body;
-  sync_changes = λ d t i x. context_sync_changes i x (texts_in t x.column) (waiting_rows x.body.marks);
+  sync_changes = λ d t i x place. context_sync_changes i x place (texts_in t x.column) (waiting_rows x.body.marks);
   asks = λ t prefs range. HasAllRows range;
   can_create = λ t range. nat_le (length (rows_within t range)) mark_limit;
   new_body = λ range d t target prefs. new_context t range;
@@ -133,13 +143,20 @@ a_new_row_waits c = refl
 it_is_noted : (document : Option ℕ) → context_changes (codes "di") (pos 4) None (Some []) document ≡ queue_changes (codes "di") (pos 4)
 it_is_noted document = refl
 
-nothing_waits : (x : IndexOf ContextIndex) (text : ℤ → Option (List ℕ)) → context_sync_changes (codes "di") x text [] ≡ []
-nothing_waits x text = refl
+nothing_waits : (x : IndexOf ContextIndex) (place : List ℕ) (text : ℤ → Option (List ℕ)) → context_sync_changes (codes "di") x place text [] ≡ []
+nothing_waits x place text = refl
 
 -- where what is wasted doesn't count, all else of an index does
 only_waste_goes : (c : ContextIndex) → (context {D = Unit {0}}).unwasted c ≡ record { part = record { given = c.part.given; tidiness = c.part.tidiness; waste = 0 }; marks = c.marks }
 only_waste_goes c = refl
 
-another_column : (x : IndexOf ContextIndex) → context_entry (record { table = codes "t"; column = 1; prefs = default_prefs; body = record { part = no_part; marks = x.body.marks } })
-    ≡ index_bytes (codes "t") 1 default_prefs 1
+another_column : (x : IndexOf ContextIndex) → context_entry (record { table = codes "t"; column = 1; prefs = default_prefs; body = record { part = no_part; marks = x.body.marks } }) no_place
+    ≡ index_bytes (codes "t") 1 default_prefs 1 Untidy no_place
 another_column x = refl
+
+-- a row that goes makes a clean index untidy, and a new one leaves it clean
+a_loss_unsettles : (c : ContextIndex) → (context_after (pos 4) (Some []) None 0 (record c { marks = from_sorted ((pos 4, Pending) ∷ []) })).part.tidiness ≡ Untidy
+a_loss_unsettles c = ap (λ (m : Option (Mark (Unit {0}))). (part_after_loss m 0 c.part).tidiness) (get-from_sorted int_cmp ((pos 4, Pending) ∷ []) (pos 4) tt)
+
+a_new_row_leaves_it : (c : ContextIndex) → (context_after (pos 4) None (Some []) 0 c).part.tidiness ≡ c.part.tidiness
+a_new_row_leaves_it c = refl

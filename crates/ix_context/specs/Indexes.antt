@@ -68,7 +68,7 @@ HasAllRows range = (r : ℤ) → IsRow r → is_key_in range r ≡ true
 
 -- A row's mark is lost: the index is tidy no more, and if the row was settled, what its document costs is wasted.
 abbrev pub part_after_loss : Option (Mark (Unit {0})) → ℕ → Part → Part
-part_after_loss None cost p = p
+part_after_loss None cost p = record p { tidiness = Untidy }
 part_after_loss (Some Pending) cost p = record p { tidiness = Untidy }
 part_after_loss (Some (Settled _)) cost p = record p { tidiness = Untidy; waste = p.waste + cost }
 

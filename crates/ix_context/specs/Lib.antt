@@ -1,12 +1,16 @@
 pub mod Postings
 pub mod Indexes
+pub mod Places
 pub mod Spelling
 pub mod Documents
 pub mod Standing
 pub mod Gathering
 pub mod GatheredRows
+pub mod GatheringPortions
 pub mod Changes
+pub mod Untidying
 pub mod Contexts
+pub mod Levels
 pub mod Contents
 pub mod Limits
 pub mod Sees

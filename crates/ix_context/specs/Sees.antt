@@ -15,8 +15,9 @@ use Rattle.ix_context.specs.declared.faults.ContextFault.{ContextFault}
 use Rattle.ix_context.specs.declared.faults.ContextFault.TheVariants.{TooMany}
 use Rattle.ix_context.specs.Gathering.{IndexRowsView, texts_gathered}
 use Rattle.ix_context.specs.Indexes.{ContextIndex, mark_limit, texts_in, rows_within, waiting_rows, target_text}
-use Rattle.ix_context.specs.Changes.{ChangesWithin}
-use Rattle.ix_context.specs.Contexts.{context_stands, context_sync_changes, context_create_changes}
+use Rattle.ix_kinds.specs.Statements.{untidying_in}
+use Rattle.ix_context.specs.Changes.{Adds, ChangesWithin}
+use Rattle.ix_context.specs.Contexts.{context, context_stands, context_sync_changes, context_create_changes}
 use Rattle.ix_context.specs.Limits.{IsWithinLimits}
 use Rattle.ix_context.specs.Contents.{HoldsTables, HoldsContext}
 
@@ -36,6 +37,14 @@ ToldContext view k i holds = (m : Content) (ts : Tables) (x : IndexOf ContextInd
 abbrev pub SeesContext : {K T E : Type 0} → (K → KeeperView) → K → List ℕ → Result T E → (Table → IndexOf ContextIndex → T → Type 0) → Type 0
 SeesContext view old i result gives = ToldContext view old i (λ t x. IfOk result (gives t x))
 
+-- The same with the place that the entry of the index ends in.
+abbrev pub ToldPlace : {K : Type 0} → (K → KeeperView) → K → List ℕ → (Table → IndexOf ContextIndex → List ℕ → Type 0) → Type 0
+ToldPlace view k i holds =
+    (m : Content) (ts : Tables) (x : IndexOf ContextIndex) → (view k).content ≡ Some m → (told : HoldsContext m ts i x) → holds (table_at ts x.table) x told.entry.place
+
+abbrev pub SeesPlace : {K T E : Type 0} → (K → KeeperView) → K → List ℕ → Result T E → (Table → IndexOf ContextIndex → List ℕ → T → Type 0) → Type 0
+SeesPlace view old i result gives = ToldPlace view old i (λ t x place. IfOk result (gives t x place))
+
 -- The same of an index that is within the limits of a search. Neither the table nor the index needs to keep any other rule.
 abbrev pub SeesWithinLimits : {K T E : Type 0} → (K → KeeperView) → K → List ℕ → Result T E → (Table → IndexOf ContextIndex → T → Type 0) → Type 0
 SeesWithinLimits view old i result gives =
@@ -43,9 +52,9 @@ SeesWithinLimits view old i result gives =
 
 -- ---- what calls find to do, or not
 
--- what a synchronisation of the index puts, and how many documents it has given then
-abbrev pub synced_changes_of : List ℕ → Table → IndexOf ContextIndex → List (Key × Option (List ℕ))
-synced_changes_of i t x = context_sync_changes i x (texts_in t x.column) (waiting_rows x.body.marks)
+-- what a synchronisation of the index puts whose entry ends in this place, and how many documents it has given then
+abbrev pub synced_changes_of : List ℕ → Table → IndexOf ContextIndex → List ℕ → List (Key × Option (List ℕ))
+synced_changes_of i t x place = context_sync_changes i x place (texts_in t x.column) (waiting_rows x.body.marks)
 
 abbrev pub given_after_sync : IndexOf ContextIndex → ℕ
 given_after_sync x = x.body.part.given + length (waiting_rows x.body.marks)
@@ -58,8 +67,8 @@ abbrev pub given_after_create : Tables → Target → KeyRange → ℕ
 given_after_create ts target range = length (rows_within (table_at ts target.table) range)
 
 -- the changes of a synchronisation, and of a new index, where these have at most as many documents as there are numbers
-abbrev pub AreSyncChanges : List ℕ → Table → IndexOf ContextIndex → Option (List (List ℕ × Option (List ℕ))) → Type 0
-AreSyncChanges i t x found = ChangesWithin mark_limit (given_after_sync x) (synced_changes_of i t x) found
+abbrev pub AreSyncChanges : List ℕ → Table → IndexOf ContextIndex → List ℕ → Option (List (List ℕ × Option (List ℕ))) → Type 0
+AreSyncChanges i t x place found = ChangesWithin mark_limit (given_after_sync x) (synced_changes_of i t x place) found
 
 abbrev pub AreCreateChanges : Tables → List ℕ → Target → Prefs → KeyRange → Option (List (List ℕ × Option (List ℕ))) → Type 0
 AreCreateChanges ts i target prefs range found = ChangesWithin mark_limit (given_after_create ts target range) (created_changes_of ts i target prefs range) found
@@ -67,6 +76,11 @@ AreCreateChanges ts i target prefs range found = ChangesWithin mark_limit (given
 -- TooMany is answered only of more documents than there are numbers.
 abbrev pub IsTooManyOnly : {T : Type 0} → Result T ContextFault → ℕ → Type 0
 IsTooManyOnly result given = result ≡ Err TooMany → mark_limit < given
+
+-- Unless the call failed, the batch has the change by which the index is tidy no more.
+abbrev pub UntidiesIndex : {K T E : Type 0} → (K → KeeperView) → K → List ℕ → Result T E → List (List ℕ × Option (List ℕ)) → List (List ℕ × Option (List ℕ)) → Type 0
+UntidiesIndex view k i result old new =
+    (m : Content) (ts : Tables) (x : IndexOf ContextIndex) → (view k).content ≡ Some m → HoldsContext m ts i x → Adds old new result (untidying_in (context {D = Unit {0}}) (at m) i (Some x))
 
 -- ---- what is gathered
 

@@ -17,21 +17,26 @@ use Rattle.tx_settings.specs.Defaults.{default_prefs}
 use Rattle.tx_settings.specs.PrefsBytes.{IsPrefs}
 use Rattle.tx_settings.specs.laws.Settable.{defaults_can_be_set}
 use lib.Utf8.{encode}
+use Rattle.ix_rows.specs.Stores.{Tidiness, Untidy, Clean}
+use Rattle.ix_context.specs.Places.{IsPlace, AtStart, BehindWord, no_place, word_place}
 use Rattle.ix_context.specs.Spelling.{index_bytes}
 
 -- ---- values
 
--- the entry of an index on a column of some table, with any preferences, whether or not there is such a table
+-- the entry of an index on a column of some table, with any preferences, tidy or not, whether or not there is such a table
 pub record IsIndexEntry (value : List ℕ) : Type 0 where
   pub table : List ℕ
   pub column : ℕ
   pub prefs : Prefs
   pub next : ℕ
+  pub tidiness : Tidiness
+  pub place : List ℕ
   pub named : IsName table
-  pub place : column < 256
+  pub low : column < 256
   pub are : IsPrefs prefs
   pub fits : next < 2 ^ 32
-  pub spelt : value ≡ index_bytes table column prefs next
+  pub resumes : IsPlace place
+  pub spelt : value ≡ index_bytes table column prefs next tidiness place
 
 -- the four bytes of a document
 abbrev pub IsDocumentPart : List ℕ → Type 0
@@ -99,7 +104,38 @@ KeepsShape old new result = OnOk result (AreShaped HasContextValue old → AreSh
 -- the entry of an index on the column 1 of a table `t` that has given two documents
 an_index : HasContextValue (key kind.Indexes (codes "di") []) (1 ∷ 1 ∷ 0x74 ∷ 1 ∷ 0 ∷ 0 ∷ 0 ∷ 2 ∷ 0 ∷ 0 ∷ 0 ∷ 0 ∷ 0 ∷ 0 ∷ 3 ∷ 0 ∷ 0 ∷ 0 ∷ [])
 unfolding varint encode
-an_index = record { table = codes "t"; column = 1; prefs = default_prefs; next = 3; named = record { spelt = refl; lower = refl }; place = omega arith; are = record { lexer = refl; can_be = defaults_can_be_set; stop = refl; group = refl; named = refl }; fits = omega arith; spelt = refl }
+an_index = record {
+  table = codes "t";
+  column = 1;
+  prefs = default_prefs;
+  next = 3;
+  tidiness = Untidy;
+  place = no_place;
+  named = record { spelt = refl; lower = refl };
+  low = omega arith;
+  are = record { lexer = refl; can_be = defaults_can_be_set; stop = refl; group = refl; named = refl };
+  fits = omega arith;
+  resumes = AtStart refl;
+  spelt = refl;
+}
+
+-- the same, clean, where an optimisation goes on behind the token `a` of the stream 2
+a_clean_index : HasContextValue (key kind.Indexes (codes "di") []) (1 ∷ 1 ∷ 0x74 ∷ 1 ∷ 0 ∷ 0 ∷ 0 ∷ 2 ∷ 0 ∷ 0 ∷ 0 ∷ 0 ∷ 0 ∷ 0 ∷ 3 ∷ 2 ∷ 2 ∷ 1 ∷ 0x61 ∷ [])
+unfolding varint encode
+a_clean_index = record {
+  table = codes "t";
+  column = 1;
+  prefs = default_prefs;
+  next = 3;
+  tidiness = Clean;
+  place = word_place 2 (codes "a");
+  named = record { spelt = refl; lower = refl };
+  low = omega arith;
+  are = record { lexer = refl; can_be = defaults_can_be_set; stop = refl; group = refl; named = refl };
+  fits = omega arith;
+  resumes = BehindWord 2 (codes "a") (omega arith) (record { some = omega arith; short = omega arith }) refl;
+  spelt = refl;
+}
 
 row_of_a_document : HasContextValue (key kind.DocumentRows (codes "di") (document_part 1)) (0x80 ∷ 0 ∷ 0 ∷ 0 ∷ 0 ∷ 0 ∷ 0 ∷ 7 ∷ [])
 unfolding row_bytes

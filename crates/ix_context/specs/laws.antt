@@ -1,4 +1,5 @@
 pub mod Postings
+pub mod Places
 pub mod Lengths
 pub mod IndexChanges
 pub mod Standing
@@ -6,6 +7,7 @@ pub mod Bodies
 pub mod Parts
 pub mod Gathered
 pub mod GatheredRows
+pub mod GatheredPortions
 pub mod Notes
 pub mod RowChanges
 pub mod Syncs
@@ -14,6 +16,7 @@ pub mod Texts
 pub mod Ranges
 pub mod Reading
 pub mod ContextRows
+pub mod ContextUntidies
 pub mod ContextPostings
 pub mod ContextSyncs
 pub mod ContextCreates

@@ -12,7 +12,7 @@ ghost use Rattle.ix_context.specs.Faults.{context_fault_of};
 ghost use Rattle.ix_context.specs.Sees.{ToldTables, SeesTables, AreCreateChanges, IsTooManyOnly, created_changes_of, given_after_create};
 ghost use Rattle.ix_context.specs.Shapes.{HasContextValue, KeepsShape};
 
-use crate::entries::put_index;
+use crate::entries::put_new_index;
 use crate::faults::{ContextFault, fault_of_reads};
 use crate::marking::{mark_next, number_after};
 use crate::ranges::KeyRange;
@@ -123,7 +123,7 @@ fn changes_of_create<R: Threads + Sync, K: Keeper>(
         return Ok(None);
     };
     let mut changes = Batch::new(alloc);
-    put_index(alloc, &mut changes, index, target, prefs, next)?;
+    put_new_index(alloc, &mut changes, index, target, prefs, next)?;
     mark_rows(
         rt,
         alloc,

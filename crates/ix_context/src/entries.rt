@@ -8,10 +8,13 @@ ghost use Rattle.ct_keep.specs.Looks.{look, LooksAtMost};
 ghost use Rattle.ct_entry.specs.declared.kinds.Kind.TheVariants as kind;
 ghost use Rattle.ct_entry.specs.Keys.{key, bytes, at};
 ghost use Rattle.tx_settings.specs.Attributes.{can_be_set};
-ghost use Rattle.ix_context.specs.Spelling.{index_bytes, SpellsIndex, index_change, HasIndexParts};
+ghost use Rattle.ix_rows.specs.Stores.{Untidy};
+ghost use Rattle.ix_context.specs.Places.{IsPlace, IsPlaceRead, no_place, place_bytes};
+ghost use Rattle.ix_context.specs.Spelling.{SpellsIndex, index_change, stored_bytes, stored_change, HasIndexParts};
 ghost use Rattle.ix_context.specs.Changes.{Adds};
 ghost use Rattle.ix_context.specs.Shapes.{KeepsShape};
 
+use crate::places::{Place, Tidiness, put_end, read_end};
 use ct_base::{Memory, Name};
 use ct_bytes::{put_text, put_u32, read_text, read_u32};
 use ct_entry::{Kind, fetch_entry, put_entry};
@@ -22,12 +25,15 @@ use tx_settings::Prefs;
 
 /// What the entry of an index says.
 #[derive(Debug, Drop)]
-pub(crate) struct IndexEntry {
-    pub(crate) target: Target,
+pub struct IndexEntry {
+    pub target: Target,
     /// How it reads texts.
-    pub(crate) prefs: Prefs,
+    pub prefs: Prefs,
     /// The document that it gives next.
-    pub(crate) next_document: u32,
+    pub next_document: u32,
+    pub tidiness: Tidiness,
+    /// Where an optimisation with a limit goes on.
+    pub place: Place,
 }
 
 /// The bytes of the entry of an index.
@@ -36,8 +42,11 @@ fn index_value(
     target: &Target,
     prefs: &Prefs,
     next_document: u32,
+    tidiness: Tidiness,
+    place: &Place,
 ) -> Result<Vec<u8>, Memory>
-    ensures { IfOk result (λ v. v.items ≡ index_bytes target.now.table target.now.column prefs.now next_document) }
+    requires { IsPlace (place_bytes place.now) }
+    ensures { IfOk result (λ v. v.items ≡ stored_bytes target.now prefs.now next_document tidiness place.now) }
 {
     let mut value = Vec::new(alloc);
     value.push(1)?;
@@ -46,21 +55,27 @@ fn index_value(
     prefs.put(&mut value)?;
     value.push(0)?;
     put_u32(&mut value, next_document)?;
-    value.extend_from_slice(&[0, 0, 0])?;
+    put_end(&mut value, tidiness, place)?;
     Ok(value)
 }
 
-/// Adds the change that puts the entry of an index: its target, its preferences, and the number of its next document.
-pub(crate) fn put_index(
+/// Adds the change that puts the entry of an index: its target, its preferences, the number of its next document, how tidy it is, and
+/// the place where an optimisation goes on. The batch is unchanged at an error.
+///
+/// Its cost is the length of the entry.
+pub fn put_index(
     alloc: Global,
     batch: &mut Batch,
     index: &Name,
     target: &Target,
     prefs: &Prefs,
     next_document: u32,
+    tidiness: Tidiness,
+    place: &Place,
 ) -> Result<(), Memory>
-    requires { can_be_set prefs.now.lexer ≡ true }
-    ensures ok { Adds batch.old batch.new result (index_change index.now target.now prefs.now next_document ∷ []) }
+    requires set { can_be_set prefs.now.lexer ≡ true }
+    requires place { IsPlace (place_bytes place.now) }
+    ensures ok { Adds batch.old batch.new result (stored_change index.now target.now prefs.now next_document tidiness place.now ∷ []) }
     ensures err { OnErr result (batch.new ≡ batch.old) }
     ensures shaped { KeepsShape batch.old batch.new result }
 {
@@ -69,13 +84,41 @@ pub(crate) fn put_index(
     let _table = target.table.as_str();
     let _column = target.column;
     prefs.keep_rules();
-    let value = index_value(alloc, target, prefs, next_document)?;
+    let value = index_value(alloc, target, prefs, next_document, tidiness, place)?;
     put_entry(alloc, batch, Kind::Indexes, index, &[], value)
 }
 
-/// The table, the column, the preferences and the next document, where the bytes are those of an index. None where they spell none.
-fn parts(alloc: Global, value: &[u8]) -> Result<Option<(&[u8], u8, Prefs, u32)>, Memory>
-    ensures parts { IfOk result (λ found. HasIndexParts value.now (option_map (λ r. (r.0.now, r.1, r.2, r.3)) found)) }
+/// Adds the change that puts the entry of a new index: it is untidy, and an optimisation begins with the first token.
+pub(crate) fn put_new_index(
+    alloc: Global,
+    batch: &mut Batch,
+    index: &Name,
+    target: &Target,
+    prefs: &Prefs,
+    next_document: u32,
+) -> Result<(), Memory>
+    requires { can_be_set prefs.now.lexer ≡ true }
+    ensures ok { Adds batch.old batch.new result (index_change index.now target.now prefs.now next_document Untidy no_place ∷ []) }
+    ensures err { OnErr result (batch.new ≡ batch.old) }
+    ensures shaped { KeepsShape batch.old batch.new result }
+{
+    let tidiness = Tidiness::Untidy;
+    let place = Place::Start;
+    put_index(
+        alloc,
+        batch,
+        index,
+        target,
+        prefs,
+        next_document,
+        tidiness,
+        &place,
+    )
+}
+
+/// The table, the column, the preferences, the next document and the end, where the bytes are those of an index. None where they spell none.
+fn parts(alloc: Global, value: &[u8]) -> Result<Option<(&[u8], u8, Prefs, u32, &[u8])>, Memory>
+    ensures parts { IfOk result (λ found. HasIndexParts value.now (option_map (λ r. (r.0.now, r.1, r.2, r.3, r.4.now)) found)) }
     ensures set { IfOk result (λ found. IfSome found (λ r. can_be_set r.2.lexer ≡ true)) }
 {
     let Some((table, at)) = read_text(value, 1) else {
@@ -90,42 +133,51 @@ fn parts(alloc: Global, value: &[u8]) -> Result<Option<(&[u8], u8, Prefs, u32)>,
     let Some(next_document) = read_u32(value, next + 1) else {
         return Ok(None);
     };
-    Ok(Some((table, *column, prefs, next_document)))
+    let end = &value[next + 5..];
+    Ok(Some((table, *column, prefs, next_document, end)))
 }
 
 /// The index that the bytes spell.
 pub(crate) fn index_of(alloc: Global, value: &[u8]) -> Result<Option<IndexEntry>, Memory>
     ensures spells { IfOk result (λ found. SpellsIndex (Some value.now) found) }
     ensures set { IfOk result (λ found. IfSome found (λ e. can_be_set e.prefs.lexer ≡ true)) }
+    ensures place { IfOk result (λ found. IfSome found (λ e. IsPlaceRead e.place)) }
 {
-    let Some((table, column, prefs, next_document)) = parts(alloc, value)? else {
+    let Some((table, column, prefs, next_document, end)) = parts(alloc, value)? else {
         return Ok(None);
     };
     let Some(table) = Name::of_bytes(alloc, table)? else {
         return Ok(None);
     };
+    let Some((tidiness, place)) = read_end(alloc, end)? else {
+        return Ok(None);
+    };
     prefs.keep_rules();
     let target = Target { table, column };
-    let written = index_value(alloc, &target, &prefs, next_document)?;
+    let written = index_value(alloc, &target, &prefs, next_document, tidiness, &place)?;
     if written.as_slice() == value {
         Ok(Some(IndexEntry {
             target,
             prefs,
             next_document,
+            tidiness,
+            place,
         }))
     } else {
         Ok(None)
     }
 }
 
-/// What the entry of an index says. None where there is no such index, or its entry isn't that of one. It never answers Full.
-pub(crate) fn read_index<K: Keeper>(
+/// What the entry of an index says. None where there is no such index, or its entry isn't that of one. It takes one look-up, and never
+/// answers Full.
+pub fn read_index<K: Keeper>(
     alloc: Global,
     keeper: &mut K,
     index: &Name,
 ) -> Result<Option<IndexEntry>, KeepFault>
     requires { (K.view keeper.old).ready }
     ensures set { IfOk result (λ found. IfSome found (λ e. can_be_set e.prefs.lexer ≡ true)) }
+    ensures place { IfOk result (λ found. IfSome found (λ e. IsPlaceRead e.place)) }
     ensures value { Finds K.view keeper.old result (λ m found. SpellsIndex (at m (key kind.Indexes index.now [])) found) }
     ensures reads { OnlyReads K.view keeper.old keeper.new result }
     ensures at_most { LooksAtMost K.view keeper.old keeper.new (look (bytes (key kind.Indexes index.now [])) None) }

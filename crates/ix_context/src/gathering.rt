@@ -1,7 +1,7 @@
 //! Gathering the postings of rows that become documents.
 #![tactic(auto, using(ct_keep::specs::laws::Composing::reads_on, ct_keep::specs::laws::Composing::reads_short))]
 
-ghost use Rattle.std.specs.Prelude.{◌≡◌, ◌<◌, ◌^◌, All, IfOk, OnOk, true};
+ghost use Rattle.std.specs.Prelude.{◌≡◌, ◌+◌, ◌<◌, ◌^◌, All, IfOk, OnOk, length, true};
 ghost use Rattle.ct_keep.specs.KeeperViews.{OnlyReads};
 ghost use Rattle.ix_posting.specs.Forms.{counted_bytes, number_form, pair_form};
 ghost use Rattle.ix_rows.specs.WordRows.{word_term};
@@ -10,24 +10,28 @@ ghost use Rattle.tx_settings.specs.Attributes.{can_be_set};
 ghost use Rattle.ix_context.specs.Changes.{Adds};
 ghost use Rattle.ix_context.specs.Gathering.{nothing_gathered, with_word_entry, with_section_entry, with_entry, with_entries, with_text, gathering_changes};
 ghost use Rattle.ix_context.specs.GatheredRows.{AreGathered};
+ghost use Rattle.ix_context.specs.GatheringPortions.{Comes, entry_in, with_portion, with_postings};
 ghost use Rattle.ix_context.specs.Indexes.{target_text};
 ghost use Rattle.ix_context.specs.Postings.{IsWord, IsSection, IsPosting, IsShortOrNone, if_short};
 ghost use Rattle.ix_rows.specs.Firsts.{first_positions};
 ghost use Rattle.ix_context.specs.Sees.{ToldTables, SeesTables};
 
+use crate::portions::DocumentTexts;
 use ct_base::{Memory, Name, RowKey, Text};
 use ct_entry::Kind;
 use ct_keep::{Batch, KeepFault, Keeper};
+use ix_invert::{Posting, invert};
 use ix_posting::put_places;
 use ix_rows::{TermRows, put_firsts, put_section_term, put_word_term};
 use std::alloc::Global;
 use std::marker::Model;
+use std::thread::Threads;
 use tb_table::{Target, text_of};
 use tx_document::{Entry, analyse};
 use tx_settings::Prefs;
 
 /// How many bytes of text a document may have: far more than a text of a table.
-const INDEXED_TEXT_LIMIT: usize = 1 << 19;
+pub(crate) const INDEXED_TEXT_LIMIT: usize = 1 << 19;
 
 /// The stream of sections, which is none of words.
 const SECTIONS: u8 = 255;
@@ -206,6 +210,62 @@ impl IndexRows {
         Ok(())
     }
 
+    /// A posting comes, of its document.
+    fn put_posting(
+        &mut self,
+        alloc: Global,
+        spelling: &mut Spelling,
+        posting: Posting,
+    ) -> Result<(), Memory>
+        requires { Comes posting }
+        ensures { OnOk result (self.new ≡ with_entry self.old posting.doc.0 (entry_in posting)) }
+    {
+        let document = posting.doc.0;
+        let entry = Entry {
+            stream: posting.stream,
+            token: posting.token,
+            places: posting.places,
+        };
+        self.put_entry(alloc, spelling, document, &entry)
+    }
+
+    /// Postings come, each of its document.
+    fn put_postings(&mut self, alloc: Global, postings: Vec<Posting>) -> Result<(), Memory>
+        requires { All Comes postings.items }
+        ensures { OnOk result (self.new ≡ with_postings self.old postings.items) }
+    {
+        let mut spelling = Spelling {
+            term: Vec::new(alloc),
+            places: Vec::new(alloc),
+        };
+        for posting in postings {
+            self.put_posting(alloc, &mut spelling, posting)?;
+        }
+        Ok(())
+    }
+
+    /// The words and the sections of a portion of texts come, the first of which becomes this document. Up to so many threads read a
+    /// part of the texts each. It holds the postings of all these texts, and while they are put in order half as many once more.
+    pub(crate) fn put_portion<R: Threads + Sync>(
+        &mut self,
+        rt: &R,
+        alloc: Global,
+        degree: u32,
+        prefs: &Prefs,
+        first: u32,
+        texts: &[Text],
+    ) -> Result<(), Memory>
+        requires room { first + length texts.now < 2 ^ 32 }
+        requires set { can_be_set prefs.now.lexer ≡ true }
+        ensures gathers { OnOk result (self.new ≡ with_portion prefs.now self.old first texts.now) }
+        ensures grown { OnOk result (AreGathered self.old → AreGathered self.new) }
+    {
+        prefs.keep_rules();
+        let reader = DocumentTexts { prefs };
+        let postings = invert(rt, alloc, &reader, first, texts, degree)?;
+        self.put_postings(alloc, postings)
+    }
+
     /// Adds the changes that put all rows, in the order of their keys.
     pub(crate) fn into_changes(
         self,
@@ -236,7 +296,7 @@ fn if_short(text: Option<Text>) -> Option<Text>
 }
 
 /// The text of a row that an index on this target sees. One of over 2^19 bytes, which no table has, counts as none.
-fn seen_text<K: Keeper>(
+pub(crate) fn seen_text<K: Keeper>(
     alloc: Global,
     keeper: &mut K,
     target: &Target,

@@ -1,20 +1,25 @@
 //! Noting changes of rows in indexes.
 #![tactic(auto, using(ct_keep::specs::laws::Composing::reads_on, ct_keep::specs::laws::Composing::reads_short))]
 
-ghost use Rattle.std.specs.Prelude.{◌≡◌, OnErr, Some, Err};
+ghost use Rattle.std.specs.Prelude.{◌≡◌, [], OnOk, OnErr, Some, None, Err};
 ghost use Rattle.std.specs.Option.{option_map};
-ghost use Rattle.ct_keep.specs.KeeperViews.{ReadsKeeper, Told};
+ghost use Rattle.ct_keep.specs.KeeperViews.{OnlyReads, ReadsKeeper, Told};
 ghost use Rattle.ct_keep.specs.Looks.{no_looks, LooksAtMost};
-ghost use Rattle.ct_entry.specs.Keys.{at};
+ghost use Rattle.ct_entry.specs.declared.kinds.Kind.TheVariants as kind;
+ghost use Rattle.ct_entry.specs.Keys.{at, key};
 ghost use Rattle.ix_docmap.specs.Changes.{gone_changes, changed_changes, queue_changes};
 ghost use Rattle.ix_docmap.specs.Readings.{document_at};
 ghost use Rattle.ix_context.specs.Changes.{Adds};
 ghost use Rattle.ix_context.specs.Faults.{context_fault_of};
+ghost use Rattle.ix_context.specs.Sees.{UntidiesIndex};
 ghost use Rattle.ix_context.specs.Shapes.{KeepsShape};
+ghost use Rattle.ix_context.specs.Untidying.{AddsAsLong};
 
+use crate::entries::{put_index, read_index};
 use crate::faults::{ContextFault, fault_of_reads};
+use crate::places::Tidiness;
 use ct_base::{DocId, Memory, Name, RowKey};
-use ct_keep::{Batch, Keeper};
+use ct_keep::{Batch, KeepFault, Keeper};
 use ix_docmap::{number_of, queue, unmark, unqueue};
 use std::alloc::Global;
 
@@ -126,5 +131,43 @@ pub fn note_update<K: Keeper>(
         Err(fault) => return Err(fault_of_reads(fault)),
     };
     requeue_row(alloc, batch, index, key, document)?;
+    Ok(())
+}
+
+/// Adds the change by which an index is tidy no more: it comes before those of the first row that goes or changes. Its entry ends in the
+/// same place, and has as many bytes. Nothing where the index isn't tidy, and where there is no such index.
+///
+/// It takes one look-up, of the index's entry. Memory and Disk are the only errors, and the batch is unchanged at both.
+pub fn untidy<K: Keeper>(
+    alloc: Global,
+    keeper: &mut K,
+    batch: &mut Batch,
+    index: &Name,
+) -> Result<(), KeepFault>
+    requires { (K.view keeper.old).ready }
+    ensures changes { UntidiesIndex K.view keeper.old index.now result batch.old batch.new }
+    ensures no_entry { Told K.view keeper.old (λ m. at m (key kind.Indexes index.now []) ≡ None → OnOk result (batch.new ≡ batch.old)) }
+    ensures as_long { Told K.view keeper.old (λ m. OnOk result (AddsAsLong (at m) batch.old batch.new)) }
+    ensures err { OnErr result (batch.new ≡ batch.old) }
+    ensures shaped { KeepsShape batch.old batch.new result }
+    ensures reads { OnlyReads K.view keeper.old keeper.new result }
+    ensures at_most { LooksAtMost K.view keeper.old keeper.new no_looks }
+{
+    let Some(entry) = read_index(alloc, keeper, index)? else {
+        return Ok(());
+    };
+    if !entry.tidiness.is_tidy() {
+        return Ok(());
+    }
+    put_index(
+        alloc,
+        batch,
+        index,
+        &entry.target,
+        &entry.prefs,
+        entry.next_document,
+        Tidiness::Untidy,
+        &entry.place,
+    )?;
     Ok(())
 }

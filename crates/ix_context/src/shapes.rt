@@ -6,14 +6,12 @@ ghost use Rattle.ct_entry.specs.declared.kinds.Kind.TheVariants as kind;
 ghost use Rattle.ix_context.specs.Shapes.{IsDocumentPart, IsContextShape, IsPostingPart, NamesSpanDocument, StartsAt};
 
 use crate::entries::index_of;
+use crate::places::STREAM_LIMIT;
 use ct_base::{Memory, Name, Pair};
 use ct_bytes::read_u32;
 use ct_entry::{Kind, is_row_part};
 use ix_posting::{Place, Row, RowFault};
 use std::alloc::Global;
-
-/// The greatest number of a stream.
-const STREAM_LIMIT: u8 = 64;
 
 /// Whether the bytes are the four of a document.
 fn is_document_part(part: &[u8]) -> bool

@@ -11,12 +11,14 @@ ghost use Rattle.ix_docmap.specs.Changes.{map_settle_changes};
 ghost use Rattle.ix_context.specs.Indexes.{mark_limit};
 ghost use Rattle.ix_context.specs.Changes.{Adds, AddsSettledRows, AreSettleChanges, settle_each_changes};
 ghost use Rattle.ix_context.specs.Faults.{context_fault_of};
-ghost use Rattle.ix_context.specs.Sees.{ToldTables, SeesTables, ToldContext, SeesContext, AreSyncChanges, IsTooManyOnly, given_after_sync, synced_changes_of};
+ghost use Rattle.ix_context.specs.Places.{IsPlace, place_bytes};
+ghost use Rattle.ix_context.specs.Sees.{ToldTables, SeesTables, ToldContext, ToldPlace, SeesPlace, AreSyncChanges, IsTooManyOnly, given_after_sync, synced_changes_of};
 ghost use Rattle.ix_context.specs.Shapes.{HasContextValue, KeepsShape};
 
 use crate::entries::{put_index, read_index};
 use crate::faults::{ContextFault, fault_of_reads};
 use crate::marking::{mark_next, number_after};
+use crate::places::{Place, Tidiness};
 use crate::texts::gather_texts;
 use ct_base::{Memory, Name, RowKey};
 use ct_keep::{Batch, KeepFault, Keeper};
@@ -91,8 +93,8 @@ fn settle_rows<R: Threads + Sync, K: Keeper>(
     Ok(())
 }
 
-/// The changes by which rows that wait become documents of an index on this target that gives this document next. None where
-/// there are more rows than numbers.
+/// The changes by which rows that wait become documents of an index on this target that gives this document next, and whose entry
+/// ends in this place. None where there are more rows than numbers.
 fn settled_changes<R: Threads + Sync, K: Keeper>(
     rt: &R,
     alloc: Global,
@@ -101,13 +103,15 @@ fn settled_changes<R: Threads + Sync, K: Keeper>(
     index: &Name,
     target: &Target,
     prefs: &Prefs,
+    place: &Place,
     first: u32,
     rows: &[RowKey],
 ) -> Result<Option<Batch>, KeepFault>
     requires ready { (K.view keeper.old).ready }
     requires some { 1 ≤ first }
     requires set { can_be_set prefs.now.lexer ≡ true }
-    ensures changes { SeesTables K.view keeper.old result (λ ts. AreSettleChanges ts index.now target.now prefs.now first rows.now) }
+    requires place { IsPlace (place_bytes place.now) }
+    ensures changes { SeesTables K.view keeper.old result (λ ts. AreSettleChanges ts index.now target.now prefs.now (place_bytes place.now) first rows.now) }
     ensures shaped { IfOk result (λ found. IfSome found (AreShaped HasContextValue)) }
     ensures reads { OnlyReads K.view keeper.old keeper.new result }
 {
@@ -130,7 +134,16 @@ fn settled_changes<R: Threads + Sync, K: Keeper>(
         first,
         rows,
     )?;
-    put_index(alloc, &mut changes, index, target, prefs, next)?;
+    put_index(
+        alloc,
+        &mut changes,
+        index,
+        target,
+        prefs,
+        next,
+        Tidiness::Untidy,
+        place,
+    )?;
     Ok(Some(changes))
 }
 
@@ -144,7 +157,7 @@ fn changes_of_sync<R: Threads + Sync, K: Keeper>(
     index: &Name,
 ) -> Result<Option<Batch>, KeepFault>
     requires { (K.view keeper.old).ready }
-    ensures changes { SeesContext K.view keeper.old index.now result (λ t x. AreSyncChanges index.now t x) }
+    ensures changes { SeesPlace K.view keeper.old index.now result (AreSyncChanges index.now) }
     ensures no_entry { Finds K.view keeper.old result (λ m found. at m (key kind.Indexes index.now []) ≡ None → found ≡ Some []) }
     ensures shaped { IfOk result (λ found. IfSome found (AreShaped HasContextValue)) }
     ensures reads { OnlyReads K.view keeper.old keeper.new result }
@@ -162,6 +175,7 @@ fn changes_of_sync<R: Threads + Sync, K: Keeper>(
         index,
         &entry.target,
         &entry.prefs,
+        &entry.place,
         first,
         &rows,
     )
@@ -169,7 +183,8 @@ fn changes_of_sync<R: Threads + Sync, K: Keeper>(
 
 /// Adds the changes by which each row that waits becomes a document of the index: in order of their keys they take the next
 /// document numbers, and the words of their texts in all streams and their sections get postings, by the preferences of the
-/// index. Nothing where no row waits, and where there is no such index. At most `degree` threads may read the texts; for now one does.
+/// index. It is untidy then, and an optimisation goes on where it would. Nothing where no row waits, and where there is no such
+/// index. At most `degree` threads may read the texts; for now one does.
 ///
 /// Its cost is the length of these texts, times a logarithm. It holds one text, and the rows of postings of all. TooMany where the
 /// index would have given over 2^32 - 2 documents. The batch is unchanged at each error.
@@ -182,7 +197,7 @@ pub fn sync<R: Threads + Sync, K: Keeper>(
     index: &Name,
 ) -> Result<(), ContextFault>
     requires { (K.view keeper.old).ready }
-    ensures changes { ToldContext K.view keeper.old index.now (λ t x. Adds batch.old batch.new result (synced_changes_of index.now t x)) }
+    ensures changes { ToldPlace K.view keeper.old index.now (λ t x place. Adds batch.old batch.new result (synced_changes_of index.now t x place)) }
     ensures room { ToldContext K.view keeper.old index.now (λ t x. OnOk result (given_after_sync x ≤ mark_limit)) }
     ensures many { ToldContext K.view keeper.old index.now (λ t x. IsTooManyOnly result (given_after_sync x)) }
     ensures no_entry { Told K.view keeper.old (λ m. at m (key kind.Indexes index.now []) ≡ None → OnOk result (batch.new ≡ batch.old)) }

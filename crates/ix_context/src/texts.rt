@@ -8,6 +8,7 @@ ghost use Rattle.ix_context.specs.GatheredRows.{AreGathered};
 ghost use Rattle.ix_context.specs.Sees.{SeesTables, rows_gathered};
 
 use crate::gathering::IndexRows;
+use crate::portions::gather_next;
 use ct_base::RowKey;
 use ct_keep::{KeepFault, Keeper};
 use std::alloc::Global;
@@ -16,14 +17,14 @@ use tb_table::Target;
 use tx_settings::Prefs;
 
 /// What is gathered of the texts of rows that become documents of an index on this target that reads texts by these preferences, the
-/// first of them this document. At most `degree` threads may read the texts; for now one does.
+/// first of them this document. Up to `degree` threads read the texts.
 ///
-/// Its cost is that of reading the texts, and of a logarithm for each place of a word or a section. Its memory is that of one text and
-/// of what is gathered.
+/// Its cost is that of reading the texts, and of a logarithm for each place of a word or a section. Its memory is that of what is
+/// gathered, and of one text; of several threads that of a portion of texts of a mebibyte, and of its postings.
 pub(crate) fn gather_texts<R: Threads + Sync, K: Keeper>(
-    _rt: &R,
+    rt: &R,
     alloc: Global,
-    _degree: u32,
+    degree: u32,
     keeper: &mut K,
     target: &Target,
     prefs: &Prefs,
@@ -39,9 +40,22 @@ pub(crate) fn gather_texts<R: Threads + Sync, K: Keeper>(
 {
     let mut gathered = IndexRows::new(alloc);
     let mut document = first;
-    for row in rows {
-        gathered.put_row(alloc, keeper, target, prefs, document, *row)?;
-        document += 1;
+    let mut rest = rows;
+    while !rest.is_empty() {
+        let count = gather_next(
+            &mut gathered,
+            rt,
+            alloc,
+            degree,
+            keeper,
+            target,
+            prefs,
+            document,
+            rest,
+        )?;
+        let (_, later) = rest.split_at(count);
+        document += count as u32;
+        rest = later;
     }
     Ok(gathered)
 }

@@ -38,7 +38,7 @@ use Rattle.ix_context.specs.Indexes as indexes
 use Rattle.ix_context.specs.Documents.{Postings, postings_by}
 use Rattle.ix_context.specs.Standing.{PartStands}
 use Rattle.ix_context.specs.Changes.{postings_changes, mark_each_changes, settle_each_changes}
-use Rattle.ix_context.specs.laws.Bodies.{given-with_marks, untidy-with_marks}
+use Rattle.ix_context.specs.laws.Bodies.{given-with_marks}
 use Rattle.ix_context.specs.laws.Standing.{part_of_any, entry_put, entry_here, part_agree}
 use Rattle.ix_context.specs.laws.Parts.{part_see}
 use Rattle.ix_context.specs.laws.Syncs.{part_empty, settled_in-at, settled_row}
@@ -47,8 +47,10 @@ use Rattle.ix_context.specs.laws.Settling.{part_settled, EachRow, each_among, dr
 use Rattle.ix_context.specs.laws.Reading.{index_bytes_one}
 use Rattle.ix_context.specs.Contexts.{IsContext, context_entry, context_stands, new_context, context}
 use Rattle.ix_context.specs.laws.ContextRows.{entry_is, context_alone, context_rows}
+use Rattle.ix_context.specs.laws.ContextUntidies.{context_untidies}
 use Rattle.ix_context.specs.laws.ContextPostings.{postings_of_part, postings_on}
 use Rattle.ix_context.specs.laws.ContextSyncs.{mark_is_row, weaker, context_syncs}
+use Rattle.ix_context.specs.Places.{AtStart, no_place}
 use Rattle.ix_context.specs.Spelling.{is_context_part}
 use Rattle.ix_context.specs.laws.Texts.{texts_short}
 
@@ -180,7 +182,6 @@ new_is : (t : Table) (target : Target) (prefs : Prefs) (range : KeyRange) → Is
 new_is t target prefs range is has room = record {
   marks = λ r. ap is_some (settled_row (rows_within t range) r) ∙ any (list_any (int_eq r) (rows_within t range)) ∙ ap (list_any (int_eq r)) (all_within t is range has) ∙ keys_listed t r;
   numbers = let n = given-with_marks (length (rows_within t range)) no_part in omega (arith, n, room);
-  untidy = untidy-with_marks (length (rows_within t range)) no_part refl;
 }
   where
     any : (b : Bool) → is_some {T = Mark (Unit {0})} (cond b (Some (Settled tt)) None) ≡ b
@@ -191,15 +192,19 @@ pub context_creates : {D : Type 0} → Creates (context {D = D})
 context_creates {D} = record {
   on = λ range d t i target prefs. (refl, marking_on i prefs (texts_in t target.column) (rows_within t range));
   of = λ range d t i target prefs. (refl, weaker (marking i prefs (texts_in t target.column) (rows_within t range)) (marking_of_part i prefs (texts_in t target.column) (rows_within t range)));
-  entry = λ range d t i target prefs old.
-      let first = put_value (key kind.Indexes i []) (context_entry (new_index_on (context {D = D}) range d t target prefs)) ∷ [] in
-      told_frame is_context_part (marking i prefs (texts_in t target.column) (rows_within t range)) (key kind.Indexes i []) (told first (key kind.Indexes i []) old) (marking_of_part i prefs (texts_in t target.column) (rows_within t range)) refl
-      ∙ entry_here i (context_entry (new_index_on (context {D = D}) range d t target prefs)) old
-      ∙ ap Some (entry_is D (new_index_on (context {D = D}) range d t target prefs));
+  entry = λ range d t i target prefs. (
+    no_place,
+    AtStart refl,
+    λ old.
+        let first = put_value (key kind.Indexes i []) (context_entry (new_index_on (context {D = D}) range d t target prefs) no_place) ∷ [] in
+        told_frame is_context_part (marking i prefs (texts_in t target.column) (rows_within t range)) (key kind.Indexes i []) (told first (key kind.Indexes i []) old) (marking_of_part i prefs (texts_in t target.column) (rows_within t range)) refl
+        ∙ entry_here i (context_entry (new_index_on (context {D = D}) range d t target prefs) no_place) old
+        ∙ ap Some (entry_is D (new_index_on (context {D = D}) range d t target prefs) no_place),
+  );
   is = λ range d t target prefs is texts prefs_are has room. new_is t target prefs range is has (leb-true _ _ room);
   stands = λ f range d t i target prefs is texts prefs_are has room none.
-      created_part (view (put_value (key kind.Indexes i []) (context_entry (new_index_on (context {D = D}) range d t target prefs)) ∷ []) f) t i target.column prefs range prefs_are (leb-true _ _ room) is
-      (entry_put f i (context_entry (new_index_on (context {D = D}) range d t target prefs)) (postings_by default_prefs (λ _. None)) no_marks no_part (none_stands D f i none));
+      created_part (view (put_value (key kind.Indexes i []) (context_entry (new_index_on (context {D = D}) range d t target prefs) no_place) ∷ []) f) t i target.column prefs range prefs_are (leb-true _ _ room) is
+      (entry_put f i (context_entry (new_index_on (context {D = D}) range d t target prefs) no_place) (postings_by default_prefs (λ _. None)) no_marks no_part (none_stands D f i none));
 }
 
 -- ---- what the entries tell
@@ -239,21 +244,21 @@ module _ (f : Key → Option (List ℕ)) (i : List ℕ) (x y : IndexOf ContextIn
       go None (Some mark) e d = by_row (mark_is_row u y is_u y_is r (ap is_some d))
       go (Some mark) p e d = by_row (mark_is_row t x is_t x_is r (ap is_some e))
 
-  same_index : (D : Type 0) → IsPrefs x.prefs → IsPrefs y.prefs → index_entry (context {D = D}) x ≡ index_entry (context {D = D}) y
+  same_index : (D : Type 0) → IsPrefs x.prefs → IsPrefs y.prefs → (p q : List ℕ) → index_entry (context {D = D}) x p ≡ index_entry (context {D = D}) y q
       → record x { body = record x.body { part = record x.body.part { waste = 0 } } } ≡ record y { body = record y.body { part = record y.body.part { waste = 0 } } }
-  same_index D x_prefs y_prefs entry =
+  same_index D x_prefs y_prefs p q entry =
       let mine = x_is.numbers in
       let other = y_is.numbers in
-      let parts = index_bytes_one x.table y.table x.column y.column x.prefs y.prefs (x.body.part.given + 1) (y.body.part.given + 1) x_prefs y_prefs (omega (arith, mine)) (omega (arith, other)) (entry_is D x ∙ entry ∙ sym (entry_is D y)) in
+      let parts = index_bytes_one x.table y.table x.column y.column x.prefs y.prefs (x.body.part.given + 1) (y.body.part.given + 1) x.body.part.tidiness y.body.part.tidiness p q x_prefs y_prefs (omega (arith, mine)) (omega (arith, other)) (entry_is D x p ∙ entry ∙ sym (entry_is D y q)) in
       index_is x y parts.0 parts.1 parts.2
-      (part_is x.body.part y.body.part (let next = parts.3 in omega (arith, next)) (x_is.untidy ∙ sym y_is.untidy))
+      (part_is x.body.part y.body.part (let next = parts.3 in omega (arith, next)) parts.4)
       (same_map int_cmp_total int_cmp-IsAntisymmetric x.body.marks y.body.marks same_marks)
 
 pub context_tells : {D : Type 0} → TellsOne (context {D = D})
 context_tells {D} = record {
-  one = λ f i x y t u is_t is_u x_is y_is x_prefs y_prefs same entry x_stands y_stands. same_index f i x y t u is_t is_u x_is y_is x_stands y_stands D x_prefs y_prefs entry;
+  one = λ f i x y t u is_t is_u x_is y_is x_prefs y_prefs same p q p_is q_is entry x_stands y_stands. same_index f i x y t u is_t is_u x_is y_is x_stands y_stands D x_prefs y_prefs p q entry;
 }
 
 -- CONTEXT gives what a kind of indexes has to give.
 pub context_laws : {D : Type 0} → IndextypeLaws (context {D = D})
-context_laws = record { alone = context_alone; rows = context_rows; syncs = context_syncs; creates = context_creates; one = context_tells }
+context_laws = record { alone = context_alone; untidies = context_untidies; rows = context_rows; syncs = context_syncs; creates = context_creates; one = context_tells }

@@ -1,5 +1,5 @@
 -- What a row that comes, changes or goes makes of a CONTEXT index.
-use Rattle.std.proofs.Common.{cond, ◌≤◌, ◌≡◌, ℕ, ℤ, zero, suc, ◌+◌, ◌<◌, ◌^◌, Bool, true, false, List, [], ◌∷◌, ◌++◌, Option, Some, None, refl, sym, ap, subst, ◌∙◌, arith, append_assoc}
+use Rattle.std.proofs.Common.{cond, ◌≤◌, ◌≡◌, ℕ, ℤ, zero, suc, ◌+◌, ◌<◌, ◌^◌, Bool, true, false, List, [], ◌∷◌, ◌++◌, Option, Some, None, refl, sym, ap, subst, ◌∙◌, ◌⊎◌, inl, inr, arith, append_assoc}
 use Rattle.std.specs.Prelude.{is_some, ◌==◌, ◌||◌}
 use Rattle.std.specs.Int.{to_be_bytes, w32}
 use Rattle.std.specs.Option.{option_and_then}
@@ -23,29 +23,42 @@ use Rattle.db_names.specs.Heads.{index_head_bytes}
 use Rattle.db_names.specs.declared.heads.IndexKind.TheVariants.{Context}
 use Rattle.ix_kinds.specs.Rows.{RowChange, ChangesBy, LookAlike, value_at_place, value_in_column, value_of_row}
 use Rattle.ix_kinds.specs.Indextypes.{IndexOf}
-use Rattle.ix_kinds.specs.Standing.{is_entry, index_entry}
+use Rattle.ix_kinds.specs.Standing.{is_entry, index_entry, HasEntry}
 use Rattle.ix_kinds.specs.IndextypeLaws.{is_its, by_row, StandsAlone, RowsChange}
-use Rattle.ix_rows.specs.Stores.{Untidy}
 use Rattle.ix_docmap.specs.Marks.{Mark, Pending, Settled, is_settled}
 use Rattle.ix_docmap.specs.Changes.{gone_changes, changed_changes}
 use Rattle.ix_docmap.specs.Readings.{document_of, document_at}
 use Rattle.ix_docmap.specs.laws.Documents.{is_of_map}
+use Rattle.ix_context.specs.Places.{tidiness_byte, is_tidy}
 use Rattle.ix_context.specs.Indexes.{ContextIndex, part_after_loss, mark_limit, texts_in}
 use Rattle.ix_context.specs.Documents.{Postings, text_postings, document_cost, postings_by}
 use Rattle.ix_context.specs.Standing.{PartStands}
 use Rattle.ix_context.specs.laws.Standing.{part_agree, part_of_any}
 use Rattle.ix_context.specs.laws.Parts.{part_see}
 use Rattle.ix_context.specs.laws.Notes.{context_new, context_gone, context_gone_waiting, context_changed, context_changed_waiting}
+use Rattle.ix_context.specs.Contents.{HasContextEntry}
 use Rattle.ix_context.specs.Contexts.{IsContext, context_rest, context_entry, context_after, context_changes, context}
 use Rattle.ix_context.specs.Spelling.{is_context_part}
 use Rattle.ix_context.specs.laws.RowChanges.{document_read, settled_there, all_gone, all_on_gone, all_changed, all_on_changed, gone_others, changed_others}
-use Rattle.ix_context.specs.laws.Bodies.{given-after_loss, untidy-after_loss}
+use Rattle.ix_context.specs.laws.Bodies.{given-after_loss, untidy-after_loss, untidy_is}
 
 -- ---- the entry of the index
 
--- is what its head and its rest are
-pub entry_is : (D : Type 0) (x : IndexOf ContextIndex) → context_entry x ≡ index_entry (context {D = D}) x
-entry_is D x = sym (append_assoc (1 ∷ text_bytes x.table) (x.column ∷ []) (context_rest x))
+-- is what its head, its rest and its place are
+pub entry_is : (D : Type 0) (x : IndexOf ContextIndex) (place : List ℕ) → context_entry x place ≡ index_entry (context {D = D}) x place
+entry_is D x place =
+    ap (λ (l : List ℕ). 1 ∷ text_bytes x.table ++ (x.column ∷ 0 ∷ l)) (sym (append_assoc (prefs_bytes x.prefs) (0 ∷ (to_be_bytes w32 (x.body.part.given + 1) ++ tidiness_byte x.body.part.tidiness ∷ [])) place))
+    ∙ sym (append_assoc (1 ∷ text_bytes x.table) (x.column ∷ []) (context_rest x ++ place))
+
+-- the content has it, with the place that it ends in
+abbrev pub has_entry : (D : Type 0) (f : Key → Option (List ℕ)) (i : List ℕ) (x : IndexOf ContextIndex) → HasContextEntry f i x → HasEntry (context {D = D}) f i x
+has_entry D f i x has = record { place = has.place; resumes = has.resumes; whole = has.whole ∙ ap Some (entry_is D x has.place) }
+
+-- what it is by
+pub same_rest : (D : Type 0) (x y : IndexOf ContextIndex) (place : List ℕ) → x.table ≡ y.table → x.column ≡ y.column → x.prefs ≡ y.prefs → x.body.part.given ≡ y.body.part.given
+    → x.body.part.tidiness ≡ y.body.part.tidiness → index_entry (context {D = D}) x place ≡ index_entry (context {D = D}) y place
+same_rest D x y place table column prefs given tidiness j =
+    index_head_bytes Context (table j) (column j) ++ ((0 ∷ prefs_bytes (prefs j) ++ (0 ∷ (to_be_bytes w32 (given j + 1) ++ tidiness_byte (tidiness j) ∷ []))) ++ place)
 
 -- ---- what it sees
 
@@ -76,7 +89,7 @@ context_alone {D} = record {
   agree = λ f g i x t same stand. part_agree f g i (postings_by x.prefs (texts_in t x.column)) (get x.body.marks) x.body.part same stand;
   alike = λ f i x t u alike is stand.
       part_see f i (postings_by x.prefs (texts_in t x.column)) (postings_by x.prefs (texts_in u x.column)) (get x.body.marks) x.body.part (λ r settled. ap (text_postings x.prefs) (same_texts x t u alike r)) stand;
-  is_alike = λ x t u alike is. record { marks = λ r. is.marks r ∙ sym (alike.rows r); numbers = is.numbers; untidy = is.untidy };
+  is_alike = λ x t u alike is. record { marks = λ r. is.marks r ∙ sym (alike.rows r); numbers = is.numbers };
 }
 
 -- ---- which changes they are
@@ -111,11 +124,21 @@ given_after r None (Some new) cost c = refl
 given_after r (Some old) (Some new) cost c = given-after_loss (get c.marks r) cost c.part
 given_after r (Some old) None cost c = given-after_loss (get c.marks r) cost c.part
 
-untidy_after : (r : ℤ) (old new : Option (List Value)) (cost : ℕ) (c : ContextIndex) → c.part.tidiness ≡ Untidy → (context_after r old new cost c).part.tidiness ≡ Untidy
-untidy_after r None None cost c untidy = untidy
-untidy_after r None (Some new) cost c untidy = untidy
-untidy_after r (Some old) (Some new) cost c untidy = untidy-after_loss (get c.marks r) cost c.part untidy
-untidy_after r (Some old) None cost c untidy = untidy-after_loss (get c.marks r) cost c.part untidy
+-- one that isn't tidy stays so, and one that is does where the row is new
+loose_after : (r : ℤ) (old new : Option (List Value)) (cost : ℕ) (c : ContextIndex) → is_tidy c.part.tidiness ≡ false → is_tidy (context_after r old new cost c).part.tidiness ≡ false
+loose_after r None None cost c loose = loose
+loose_after r None (Some new) cost c loose = loose
+loose_after r (Some old) (Some new) cost c loose = ap is_tidy (untidy-after_loss (get c.marks r) cost c.part)
+loose_after r (Some old) None cost c loose = ap is_tidy (untidy-after_loss (get c.marks r) cost c.part)
+
+tidy_after : (r : ℤ) (old new : Option (List Value)) (cost : ℕ) (c : ContextIndex) → (old ≡ None) ⊎ (is_tidy c.part.tidiness ≡ false)
+    → (context_after r old new cost c).part.tidiness ≡ c.part.tidiness
+tidy_after r old new cost c (inl fresh) = ap (λ (o : Option (List Value)). (context_after r o new cost c).part.tidiness) fresh ∙ of_new new
+  where
+    of_new : (new : Option (List Value)) → (context_after r None new cost c).part.tidiness ≡ c.part.tidiness
+    of_new None = refl
+    of_new (Some new) = refl
+tidy_after r old new cost c (inr loose) = untidy_is (context_after r old new cost c).part.tidiness (loose_after r old new cost c loose) ∙ sym (untidy_is c.part.tidiness loose)
 
 -- ---- the marks
 
@@ -148,7 +171,6 @@ row_is : (D : Type 0) (t u : Table) (x : IndexOf ContextIndex) (c : RowChange) (
 row_is D t u x c n by is = record {
   marks = λ s. marks_after c.row c.old c.new n x.body s (λ same. is.marks s ∙ ap (λ (z : ℤ). is_some (get t.rows z)) (int_from_eq s c.row same) ∙ ap is_some by.old) ∙ at s (int_eq s c.row) refl;
   numbers = subst (λ (n : ℕ). n ≤ mark_limit) (sym (given_after c.row c.old c.new n x.body)) is.numbers;
-  untidy = untidy_after c.row c.old c.new n x.body is.untidy;
 }
   where
     at : (s : ℤ) (b : Bool) → int_eq s c.row ≡ b → cond b (is_some c.new) (is_some (get x.body.marks s)) ≡ is_some (get u.rows s)
@@ -246,14 +268,15 @@ lost_unsettled r old (Some new) cost c = ap is_settled (get_row-insert c.marks r
 
 pub context_rows : {D : Type 0} → RowsChange (context {D = D})
 context_rows {D} = record {
-  same = λ c n x. record { kind = refl; own = λ k. refl; looks = λ column. refl };
-  own = λ f i x columns c n. record {
+  same = λ c n x. record { kind = refl; own = λ k. refl; looks = λ column. refl; resumes = λ place is. is };
+  loose = λ c n b loose. loose_after c.row c.old c.new n b loose;
+  own = λ f i x columns c. record {
     on = all_on_changes i c.row c.old c.new (document_at f i c.row);
     of = all_weaker is_of_map (is_its (context {D = D}) x.body) of_map (context_changes i c.row c.old c.new (document_at f i c.row)) (all_of_changes i c.row c.old c.new (document_at f i c.row));
-    entry =
-        told_frame is_of_map (context_changes i c.row c.old c.new (document_at f i c.row)) (key kind.Indexes i []) (Some (index_entry (context {D = D}) x)) (all_of_changes i c.row c.old c.new (document_at f i c.row)) refl
-        ∙ ap (λ (n : ℕ). Some (index_head_bytes Context x.table x.column ++ (0 ∷ prefs_bytes x.prefs ++ (0 ∷ (to_be_bytes w32 (n + 1) ++ 0 ∷ 0 ∷ 0 ∷ []))))) (sym (given_after c.row c.old c.new n x.body));
   };
+  entry = λ f i x columns c n place keeps.
+      told_frame is_of_map (context_changes i c.row c.old c.new (document_at f i c.row)) (key kind.Indexes i []) (Some (index_entry (context {D = D}) x place)) (all_of_changes i c.row c.old c.new (document_at f i c.row)) refl
+      ∙ ap Some (same_rest D x (by_row (context {D = D}) c n x) place refl refl refl (sym (given_after c.row c.old c.new n x.body)) (sym (tidy_after c.row c.old c.new n x.body keeps)));
   is = λ t u x c n is_t is_u by is. row_is D t u x c n by is;
   stands = λ f i x t u c n is_t is_u by cost is stand.
       row_stands f i x.prefs x.column x.body t u c.row c.old c.new n is_t is_u by.old by.new by.others cost (is.marks c.row ∙ ap is_some by.old) is.numbers stand;

@@ -21,24 +21,24 @@ use Rattle.tb_table.specs.Rules.{IsTable}
 use Rattle.tx_settings.specs.PrefsBytes.{IsPrefs}
 use Rattle.ix_kinds.specs.Indextypes.{IndexOf, synced_index}
 use Rattle.ix_kinds.specs.Standing.{is_entry, index_entry}
-use Rattle.ix_kinds.specs.IndextypeLaws.{Synchronises}
+use Rattle.ix_kinds.specs.IndextypeLaws.{LeadsEntry, Synchronises}
 use Rattle.ix_docmap.specs.Marks.{Mark, Pending, Settled, Marks, is_settled}
 use Rattle.ix_docmap.specs.Changes.{map_settle_changes}
 use Rattle.ix_docmap.specs.laws.Documents.{settled_in, AllFree}
-use Rattle.ix_context.specs.Indexes.{ContextIndex, in_queue, waiting_rows, all_settled, mark_limit, texts_in}
+use Rattle.ix_context.specs.Indexes.{Part, ContextIndex, in_queue, waiting_rows, all_settled, mark_limit, texts_in}
 use Rattle.ix_context.specs.Indexes as indexes
 use Rattle.ix_context.specs.Documents.{postings_by}
 use Rattle.ix_context.specs.Standing.{PartStands}
-use Rattle.ix_context.specs.Spelling.{index_bytes, is_context_part}
+use Rattle.ix_context.specs.Spelling.{is_context_part}
 use Rattle.ix_context.specs.Changes.{settle_each_changes, postings_changes}
-use Rattle.ix_context.specs.laws.Bodies.{given-with_marks, untidy-with_marks}
+use Rattle.ix_context.specs.laws.Bodies.{given-with_marks}
 use Rattle.ix_context.specs.laws.Standing.{entry_put, entry_here}
 use Rattle.ix_context.specs.laws.Syncs.{settled_pending}
 use Rattle.ix_kinds.specs.laws.Turns.{rising_apart}
 use Rattle.ix_context.specs.laws.Texts.{texts_short}
 use Rattle.ix_context.specs.laws.Settling.{part_settled, EachRow, each_among, all_free}
 use Rattle.ix_context.specs.Contexts.{IsContext, context_entry, context_stands, context_synced, context_sync_changes, context}
-use Rattle.ix_context.specs.laws.ContextRows.{entry_is}
+use Rattle.ix_context.specs.laws.ContextRows.{entry_is, same_rest}
 use Rattle.ix_context.specs.laws.ContextPostings.{postings_of_part, postings_on}
 
 -- ---- the rows of the table
@@ -79,13 +79,13 @@ synced_part f t i x room is_t prefs is stand =
     go (r ∷ rs) apart free room = part_settled x.prefs prefs (texts_in t x.column) (texts_short t is_t x.column) f i (get x.body.marks) x.body.part (r ∷ rs) apart free (omega arith) stand
 
 -- what it has is put behind the entry of the index
-sync_stands : (f : Key → Option (List ℕ)) (t : Table) (i : List ℕ) (x : IndexOf ContextIndex) (rows : List ℤ)
+sync_stands : (f : Key → Option (List ℕ)) (t : Table) (i : List ℕ) (x : IndexOf ContextIndex) (place : List ℕ) (rows : List ℤ)
     → PartStands (view (settling i x (texts_in t x.column) rows) f) i (postings_by x.prefs (texts_in t x.column)) (get (all_settled x.body.marks)) (context_synced x.body).part
-    → PartStands (view (context_sync_changes i x (texts_in t x.column) rows) f) i (postings_by x.prefs (texts_in t x.column)) (get (all_settled x.body.marks)) (context_synced x.body).part
-sync_stands f t i x [] part = part
-sync_stands f t i x (r ∷ rs) part =
+    → PartStands (view (context_sync_changes i x place (texts_in t x.column) rows) f) i (postings_by x.prefs (texts_in t x.column)) (get (all_settled x.body.marks)) (context_synced x.body).part
+sync_stands f t i x place [] part = part
+sync_stands f t i x place (r ∷ rs) part =
     let changes = settling i x (texts_in t x.column) (r ∷ rs) in
-    let entry = context_entry (record x { body = context_synced x.body }) in
+    let entry = context_entry (record x { body = context_synced x.body }) place in
     subst (λ (g : Key → Option (List ℕ)). PartStands g i (postings_by x.prefs (texts_in t x.column)) (get (all_settled x.body.marks)) (context_synced x.body).part)
     (sym (view-append changes (put_value (key kind.Indexes i []) entry ∷ []) f))
     (entry_put (view changes f) i entry (postings_by x.prefs (texts_in t x.column)) (get (all_settled x.body.marks)) (context_synced x.body).part part)
@@ -115,26 +115,29 @@ settling_on i x text (r ∷ rs) =
     all_on-append i (settle_each_changes i (x.body.part.given + 1) (r ∷ rs)) (postings_changes i (postings_by x.prefs text) (x.body.part.given + 1) (r ∷ rs))
     (all_on-each i (map_settle_changes i) (λ p. (refl, (refl, (refl, tt)))) (numbered (x.body.part.given + 1) (r ∷ rs))) (postings_on i (postings_by x.prefs text) (x.body.part.given + 1) (r ∷ rs))
 
-sync_on : (i : List ℕ) (x : IndexOf ContextIndex) (text : ℤ → Option (List ℕ)) (rows : List ℤ) → AllOn i (context_sync_changes i x text rows)
-sync_on i x text [] = tt
-sync_on i x text (r ∷ rs) = all_on-append i (settling i x text (r ∷ rs)) (put_value (key kind.Indexes i []) (context_entry (record x { body = context_synced x.body })) ∷ []) (settling_on i x text (r ∷ rs)) (refl, tt)
+sync_on : (i : List ℕ) (x : IndexOf ContextIndex) (place : List ℕ) (text : ℤ → Option (List ℕ)) (rows : List ℤ) → AllOn i (context_sync_changes i x place text rows)
+sync_on i x place text [] = tt
+sync_on i x place text (r ∷ rs) =
+    all_on-append i (settling i x text (r ∷ rs)) (put_value (key kind.Indexes i []) (context_entry (record x { body = context_synced x.body }) place) ∷ []) (settling_on i x text (r ∷ rs)) (refl, tt)
 
-sync_of : (i : List ℕ) (x : IndexOf ContextIndex) (text : ℤ → Option (List ℕ)) (rows : List ℤ) → AllOf (λ k. is_entry k || is_context_part k) (context_sync_changes i x text rows)
-sync_of i x text [] = tt
-sync_of i x text (r ∷ rs) =
-    all-append (λ k. is_entry k || is_context_part k) (settling i x text (r ∷ rs)) (put_value (key kind.Indexes i []) (context_entry (record x { body = context_synced x.body })) ∷ [])
+sync_of : (i : List ℕ) (x : IndexOf ContextIndex) (place : List ℕ) (text : ℤ → Option (List ℕ)) (rows : List ℤ) → AllOf (λ k. is_entry k || is_context_part k) (context_sync_changes i x place text rows)
+sync_of i x place text [] = tt
+sync_of i x place text (r ∷ rs) =
+    all-append (λ k. is_entry k || is_context_part k) (settling i x text (r ∷ rs)) (put_value (key kind.Indexes i []) (context_entry (record x { body = context_synced x.body }) place) ∷ [])
     (weaker (settling i x text (r ∷ rs)) (settling_of_part i x text (r ∷ rs))) (refl, tt)
 
-sync_entry : (D : Type 0) (i : List ℕ) (x : IndexOf ContextIndex) (text : ℤ → Option (List ℕ)) (rows : List ℤ) → waiting_rows x.body.marks ≡ rows
-    → told (context_sync_changes i x text rows) (key kind.Indexes i []) (Some (index_entry (context {D = D}) x)) ≡ Some (index_entry (context {D = D}) (record x { body = context_synced x.body }))
-sync_entry D i x text [] none =
-    ap Some (sym (entry_is D x)) ∙ ap (λ (n : ℕ). Some (index_bytes x.table x.column x.prefs (n + 1))) (ap (λ (l : List ℤ). (indexes.part_with_marks (length l) x.body.part).given) (sym none)) ∙ ap Some (entry_is D (record x { body = context_synced x.body }))
-sync_entry D i x text (r ∷ rs) some =
+-- it goes on ending in the same place, and where no row waits it is as it was
+sync_entry : (D : Type 0) (i : List ℕ) (x : IndexOf ContextIndex) (place : List ℕ) (text : ℤ → Option (List ℕ)) (rows : List ℤ) → waiting_rows x.body.marks ≡ rows
+    → LeadsEntry (context {D = D}) i x place (record x { body = context_synced x.body }) place (context_sync_changes i x place text rows)
+sync_entry D i x place text [] none =
+    let part : x.body.part ≡ (context_synced x.body).part = ap (λ (l : List ℤ). indexes.part_with_marks (length l) x.body.part) (sym none) in
+    ap Some (same_rest D x (record x { body = context_synced x.body }) place refl refl refl (ap (λ (p : Part). p.given) part) (ap (λ (p : Part). p.tidiness) part))
+sync_entry D i x place text (r ∷ rs) some =
     let changes = settling i x text (r ∷ rs) in
-    let entry = context_entry (record x { body = context_synced x.body }) in
-    told-append changes (put_value (key kind.Indexes i []) entry ∷ []) (key kind.Indexes i []) (Some (index_entry (context {D = D}) x))
-    ∙ entry_here i entry (told changes (key kind.Indexes i []) (Some (index_entry (context {D = D}) x)))
-    ∙ ap Some (entry_is D (record x { body = context_synced x.body }))
+    let entry = context_entry (record x { body = context_synced x.body }) place in
+    told-append changes (put_value (key kind.Indexes i []) entry ∷ []) (key kind.Indexes i []) (Some (index_entry (context {D = D}) x place))
+    ∙ entry_here i entry (told changes (key kind.Indexes i []) (Some (index_entry (context {D = D}) x place)))
+    ∙ ap Some (entry_is D (record x { body = context_synced x.body }) place)
 
 -- ---- its rules
 
@@ -147,17 +150,16 @@ synced_is : (D : Type 0) (d : D) (t : Table) (x : IndexOf ContextIndex) → x.bo
 synced_is D d t x room is = record {
   marks = λ r. ap is_some (get-each_value int_cmp_total (λ (m : Mark (Unit {0})). Settled tt) x.body.marks r) ∙ some_mapped (get x.body.marks r) ∙ is.marks r;
   numbers = let n = given-with_marks (length (waiting_rows x.body.marks)) x.body.part in subst (λ (n : ℕ). n ≤ mark_limit) (sym n) room;
-  untidy = untidy-with_marks (length (waiting_rows x.body.marks)) x.body.part is.untidy;
 }
 
 pub context_syncs : {D : Type 0} → Synchronises (context {D = D})
 context_syncs {D} = record {
-  same = λ d t x. record { kind = refl; own = λ k. refl; looks = λ column. refl };
-  own = λ d t i x. record {
-    on = sync_on i x (texts_in t x.column) (waiting_rows x.body.marks);
-    of = sync_of i x (texts_in t x.column) (waiting_rows x.body.marks);
-    entry = sync_entry D i x (texts_in t x.column) (waiting_rows x.body.marks) refl;
+  same = λ d t x. record { kind = refl; own = λ k. refl; looks = λ column. refl; resumes = λ place is. is };
+  own = λ d t i x place. record {
+    on = sync_on i x place (texts_in t x.column) (waiting_rows x.body.marks);
+    of = sync_of i x place (texts_in t x.column) (waiting_rows x.body.marks);
   };
+  entry = λ d t i x place. sync_entry D i x place (texts_in t x.column) (waiting_rows x.body.marks) refl;
   is = λ d t x is_t prefs room is. synced_is D d t x (leb-true _ _ room) is;
-  stands = λ f d t i x is_t prefs room is stand. sync_stands f t i x (waiting_rows x.body.marks) (synced_part f t i x (leb-true _ _ room) is_t prefs is stand);
+  stands = λ f d t i x place is_t prefs room is stand. sync_stands f t i x place (waiting_rows x.body.marks) (synced_part f t i x (leb-true _ _ room) is_t prefs is stand);
 }

@@ -71,7 +71,7 @@ good_word d e is few = record {
 good_section : (d : ℕ) (e : Entry) → IsSection e → length e.places ≤ most_places → IsGood pair_form (document_with d e.places)
 good_section d e is few = record { places = (is.some, is.few, is.rise); short = length-section_le d e few }
 
-grown_entry : (g : IndexRowsView) (d : ℕ) (e : Entry) → d < 2 ^ 32 → IsPosting e → length e.places ≤ most_places → AreGathered g → AreGathered (with_entry g d e)
+pub grown_entry : (g : IndexRowsView) (d : ℕ) (e : Entry) → d < 2 ^ 32 → IsPosting e → length e.places ≤ most_places → AreGathered g → AreGathered (with_entry g d e)
 grown_entry g d e small is few are = go (is_section_entry e) is
   where
     go : (b : Bool) → IsSectionOrWord b e → AreGathered (cond b (with_section_entry g d e) (with_word_entry g d e))

@@ -33,8 +33,11 @@ use Rattle.ix_kinds.specs.Indextypes.{IndexOf}
 use Rattle.ix_kinds.specs.laws.Tables.{row_of_table, table_is}
 use Rattle.ix_context.specs.declared.entries.IndexEntry.{IndexEntry}
 use Rattle.ix_context.specs.Indexes.{ContextIndex, in_queue, waiting_rows, target_text}
+use Rattle.ix_rows.specs.Stores.{Tidiness}
+use Rattle.ix_context.specs.Places.{IsPlaceRead, tidiness_byte, tidiness_of, place_bytes, end_bytes}
 use Rattle.ix_context.specs.Spelling.{index_bytes, after_table, SpellsIndex}
 use Rattle.ix_context.specs.Contents.{HoldsTables, HoldsContext}
+use Rattle.ix_context.specs.laws.Bodies.{tidiness_one}
 use Rattle.ix_context.specs.laws.ContextSyncs.{mark_is_row}
 
 -- ---- the entry of the index
@@ -51,43 +54,51 @@ column_few ts are t column is =
     let place = text_at_few is.table.columns column is.texts in
     omega (arith, few, place)
 
--- no other target, preferences and document have the same bytes
-pub index_bytes_one : (t u : List ℕ) (c d : ℕ) (p q : Prefs) (n k : ℕ) → IsPrefs p → IsPrefs q → n < 2 ^ 32 → k < 2 ^ 32
-    → index_bytes t c p n ≡ index_bytes u d q k → (t ≡ u) × (c ≡ d) × (p ≡ q) × (n ≡ k)
-index_bytes_one t u c d p q n k is are small small' e =
-    let tables = text_apart t u (after_table c p n) (after_table d q k) (cons_parts 1 1 (text_bytes t ++ after_table c p n) (text_bytes u ++ after_table d q k) e).1 in
+-- no other target, preferences, document, tidiness and place have the same bytes
+pub index_bytes_one : (t u : List ℕ) (c d : ℕ) (p q : Prefs) (n k : ℕ) (a b : Tidiness) (v w : List ℕ) → IsPrefs p → IsPrefs q → n < 2 ^ 32 → k < 2 ^ 32
+    → index_bytes t c p n a v ≡ index_bytes u d q k b w → (t ≡ u) × (c ≡ d) × (p ≡ q) × (n ≡ k) × (a ≡ b) × (v ≡ w)
+index_bytes_one t u c d p q n k a b v w is are small small' e =
+    let tables = text_apart t u (after_table c p n (end_bytes a v)) (after_table d q k (end_bytes b w)) (cons_parts 1 1 (text_bytes t ++ after_table c p n (end_bytes a v)) (text_bytes u ++ after_table d q k (end_bytes b w)) e).1 in
     let columns = cons_parts c d _ _ tables.1 in
-    let prefs = prefs_apart p q (0 ∷ (to_be_bytes w32 n ++ 0 ∷ 0 ∷ 0 ∷ [])) (0 ∷ (to_be_bytes w32 k ++ 0 ∷ 0 ∷ 0 ∷ [])) is are (cons_parts 0 0 _ _ columns.1).1 in
+    let prefs = prefs_apart p q (0 ∷ (to_be_bytes w32 n ++ end_bytes a v)) (0 ∷ (to_be_bytes w32 k ++ end_bytes b w)) is are (cons_parts 0 0 _ _ columns.1).1 in
     let next : to_be_bytes w32 n ≡ to_be_bytes w32 k = ap (λ (l : List ℕ). take 4 (drop 1 l)) prefs.1 in
-    (tables.0, columns.0, prefs.0, four_bytes_one n k small small' next)
+    let end : end_bytes a v ≡ end_bytes b w = ap (λ (l : List ℕ). drop 5 l) prefs.1 in
+    let ends = cons_parts (tidiness_byte a) (tidiness_byte b) v w end in
+    (tables.0, columns.0, prefs.0, four_bytes_one n k small small' next, tidiness_one a b ends.0, ends.1)
 
 -- what is read of an index
 abbrev pub target_of : IndexOf ContextIndex → Target
 target_of x = record { table = x.table; column = x.column }
 
-abbrev pub parts_of : IndexOf ContextIndex → IndexEntry
-parts_of x = record { target = target_of x; prefs = x.prefs; next_document = x.body.part.given + 1 }
+-- an index is read as its target, its preferences, its next document, how tidy it is, and its place
+pub record IsReadAs (x : IndexOf ContextIndex) (ends : List ℕ) (e : IndexEntry) : Type 0 where
+  pub target : e.target ≡ target_of x
+  pub prefs : e.prefs ≡ x.prefs
+  pub next : e.next_document ≡ x.body.part.given + 1
+  pub tidiness : tidiness_of e.tidiness ≡ x.body.part.tidiness
+  pub place : place_bytes e.place ≡ ends
+  pub resumes : IsPlaceRead e.place
 
--- an index is read as its target, its preferences and its next document
-pub index_read : (m : Content) (ts : Tables) (i : List ℕ) (x : IndexOf ContextIndex) → HoldsContext m ts i x → (found : Option IndexEntry)
-    → SpellsIndex (at m (key kind.Indexes i [])) found → found ≡ Some (parts_of x)
+pub index_read : (m : Content) (ts : Tables) (i : List ℕ) (x : IndexOf ContextIndex) → (holds : HoldsContext m ts i x) → (found : Option IndexEntry)
+    → SpellsIndex (at m (key kind.Indexes i [])) found → (e : IndexEntry) × (found ≡ Some e) × IsReadAs x holds.entry.place e
 index_read m ts i x holds found spelt = go found spelt
   where
     small : x.body.part.given + 1 < 2 ^ 32
     small = let few = holds.rules.numbers in omega (arith, few)
 
-    go : (found : Option IndexEntry) → SpellsIndex (at m (key kind.Indexes i [])) found → found ≡ Some (parts_of x)
+    go : (found : Option IndexEntry) → SpellsIndex (at m (key kind.Indexes i [])) found → (e : IndexEntry) × (found ≡ Some e) × IsReadAs x holds.entry.place e
     go None none =
         let few = column_few ts holds.tables.rules x.table x.column holds.target in
-        absurd (none x.table x.column x.prefs (x.body.part.given + 1) (holds.tables.rules.names x.table holds.target.table holds.target.there) (omega (arith, few)) holds.prefs small holds.entry)
+        absurd (none x.table x.column x.prefs (x.body.part.given + 1) x.body.part.tidiness holds.entry.place (holds.tables.rules.names x.table holds.target.table holds.target.there) (omega (arith, few)) holds.prefs small holds.entry.resumes holds.entry.whole)
     go (Some e) read =
-        let one = index_bytes_one e.target.table x.table e.target.column x.column e.prefs x.prefs e.next_document (x.body.part.given + 1) read.2 holds.prefs read.3 small (same_Some _ _ (sym read.4 ∙ holds.entry)) in
-        λ j. Some (record { target = record { table = one.0 j; column = one.1 j }; prefs = one.2 j; next_document = one.3 j })
+        let one = index_bytes_one e.target.table x.table e.target.column x.column e.prefs x.prefs e.next_document (x.body.part.given + 1) (tidiness_of e.tidiness) x.body.part.tidiness (place_bytes e.place) holds.entry.place read.2 holds.prefs read.3 small
+        (same_Some _ _ (sym read.5 ∙ holds.entry.whole)) in
+        (e, refl, record { target = λ j. record { table = one.0 j; column = one.1 j }; prefs = one.2; next = one.3; tidiness = one.4; place = one.5; resumes = read.4 })
 
 -- where there is no entry, nothing is read
 pub no_index_read : (entry : Option (List ℕ)) (found : Option IndexEntry) → entry ≡ None → SpellsIndex entry found → found ≡ None
 no_index_read entry None none spelt = refl
-no_index_read entry (Some e) none read = let wrong : None ≡ Some (index_bytes e.target.table e.target.column e.prefs e.next_document) = sym none ∙ read.4 in cc
+no_index_read entry (Some e) none read = let wrong : None ≡ Some (index_bytes e.target.table e.target.column e.prefs e.next_document (tidiness_of e.tidiness) (place_bytes e.place)) = sym none ∙ read.5 in cc
 
 -- ---- the queue
 

@@ -33,7 +33,7 @@ use Rattle.tx_settings.specs.declared.preferences.Prefs.{Prefs}
 use Rattle.tx_settings.specs.PrefsBytes.{IsPrefs}
 use Rattle.ix_context.specs.Postings.{text_entries, word_terms, section_terms, IsShortOrNone}
 use Rattle.ix_context.specs.Indexes.{Part}
-use Rattle.ix_context.specs.Documents.{Postings, text_postings, postings_by, document_with, word_posting, section_posting}
+use Rattle.ix_context.specs.Documents.{text_postings, postings_by, document_with, word_posting, section_posting}
 use Rattle.ix_context.specs.Standing.{PartStands}
 use Rattle.ix_context.specs.Changes.{mark_each_changes, settle_each_changes, postings_changes}
 use Rattle.ix_context.specs.laws.Gathered.{its_words, its_sections, words_found, sections_found}

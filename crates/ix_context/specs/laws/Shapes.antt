@@ -17,6 +17,8 @@ use Rattle.tx_settings.specs.declared.preferences.Prefs.{Prefs}
 use Rattle.tx_settings.specs.PrefsBytes.{IsPrefs}
 use Rattle.ix_docmap.specs.Changes.{mark_changes, queue_changes}
 use Rattle.ix_context.specs.laws.Well.{length-entry_le}
+use Rattle.ix_rows.specs.Stores.{Tidiness}
+use Rattle.ix_context.specs.Places.{IsPlace}
 use Rattle.ix_context.specs.Spelling.{index_bytes, index_change}
 use Rattle.ix_context.specs.Shapes.{HasContextValue, KeepsShape}
 
@@ -30,11 +32,11 @@ shaped_put k value ws is short bounded has rest = (entry_of_key k value is short
 pub shaped_note : (i : List ℕ) (r : ℤ) → IsName i → IsRow r → AreShaped HasContextValue (spell (queue_changes i r))
 shaped_note i r name row = shaped_put (key kind.Pending i (row_part r)) [] [] (record { owner = name; part = (r, row, refl) }) refl (omega arith) refl tt
 
-pub shaped_index : (i : List ℕ) (target : Target) (prefs : Prefs) (next : ℕ) → IsName i → IsName target.table → target.column < 256 → IsPrefs prefs → next < 2 ^ 32
-    → AreShaped HasContextValue (spell (index_change i target prefs next ∷ []))
-shaped_index i target prefs next name table column are fits =
-    shaped_put (key kind.Indexes i []) (index_bytes target.table target.column prefs next) [] (record { owner = name; part = refl }) refl (let long = length-entry_le target.table target.column prefs next table are in omega (arith, long))
-    (record { table = target.table; column = target.column; prefs = prefs; next = next; named = table; place = column; are = are; fits = fits; spelt = refl }) tt
+pub shaped_index : (i : List ℕ) (target : Target) (prefs : Prefs) (next : ℕ) (tidiness : Tidiness) (place : List ℕ) → IsName i → IsName target.table → target.column < 256 → IsPrefs prefs → next < 2 ^ 32
+    → IsPlace place → AreShaped HasContextValue (spell (index_change i target prefs next tidiness place ∷ []))
+shaped_index i target prefs next tidiness place name table column are fits resumes =
+    shaped_put (key kind.Indexes i []) (index_bytes target.table target.column prefs next tidiness place) [] (record { owner = name; part = refl }) refl (let long = length-entry_le target.table target.column prefs next tidiness place table are resumes in omega (arith, long))
+    (record { table = target.table; column = target.column; prefs = prefs; next = next; tidiness = tidiness; place = place; named = table; low = column; are = are; fits = fits; resumes = resumes; spelt = refl }) tt
 
 -- a row becomes a document of an index
 pub shaped_mark : (i : List ℕ) (d : ℕ) (r : ℤ) → IsName i → d < 2 ^ 32 → IsRow r → AreShaped HasContextValue (spell (mark_changes i d r))

@@ -22,8 +22,8 @@ returns-clause-changes g c = λ m ts holds told.
     let next : c.in-Some.next ≡ 1 + length c.in_ok-rows.rows.items = omega arith in
     let marks = c.in_ok-mark_rows.ensures.changes m ts again told in (
       few,
-      created_added t c.args.index.now c.args.target.now c.args.prefs.now c.args.range c.in_ok-rows.rows.items c.in-Some.next c.new-changes.result c.put_index.new.batch c.mark_rows.new.changes rows next c.new-changes.ensures c.in_ok-put_index.ensures.ok
-          (marks ∙ ap (λ (l : List RowKey). c.put_index.new.batch ++ spell (mark_rows_changes ts c.args.index.now c.args.target.now c.args.prefs.now 1 l)) c.deref.ensures.value),
+      created_added t c.args.index.now c.args.target.now c.args.prefs.now c.args.range c.in_ok-rows.rows.items c.in-Some.next c.new-changes.result c.put_new_index.new.batch c.mark_rows.new.changes rows next c.new-changes.ensures c.in_ok-put_new_index.ensures.ok
+          (marks ∙ ap (λ (l : List RowKey). c.put_new_index.new.batch ++ spell (mark_rows_changes ts c.args.index.now c.args.target.now c.args.prefs.now 1 l)) c.deref.ensures.value),
     )
 
 pub returns-in_err-mark_rows-clause-reads : goal.returns-in_err-mark_rows-clause-reads
@@ -35,4 +35,4 @@ returns-clause-reads g c = reads_on _ _ _ _ c.in_ok-rows.ensures.reads c.in_ok-m
 pub returns-clause-shaped : goal.returns-clause-shaped
 returns-clause-shaped g c =
     let none : AreShaped HasContextValue c.new-changes.result = subst (AreShaped HasContextValue) (sym c.new-changes.ensures) tt in
-    c.in_ok-mark_rows.ensures.shaped (c.in_ok-put_index.ensures.shaped none)
+    c.in_ok-mark_rows.ensures.shaped (c.in_ok-put_new_index.ensures.shaped none)

@@ -1,4 +1,4 @@
-use Rattle.std.proofs.Common.{[], sym, ap, ◌∙◌}
+use Rattle.std.proofs.Common.{[], Some, sym, ap, ◌∙◌}
 use Rattle.std.specs.Option.{option_map}
 use Rattle.ct_entry.specs.declared.kinds.Kind.TheVariants as kind
 use Rattle.ct_entry.specs.Keys.{key, at}
@@ -8,11 +8,13 @@ use Rattle.ix_context.proofs.querying.prefs_of.Goals as goal
 
 pub returns-in-Some-clause-prefs : goal.returns-in-Some-clause-prefs
 returns-in-Some-clause-prefs g c = λ m ts x holds told.
-    ap (option_map (λ (e : IndexEntry). e.prefs)) (sym c.in-Some.is ∙ index_read m ts c.args.index.now x told c.in_ok-entry.field-0 (c.in_ok-entry.ensures.value m holds))
+    let read = index_read m ts c.args.index.now x told c.in_ok-entry.field-0 (c.in_ok-entry.ensures.value m holds) in
+    ap (option_map (λ (e : IndexEntry). e.prefs)) (sym c.in-Some.is ∙ read.1) ∙ ap Some read.2.prefs
 
 pub returns-in-None-clause-prefs : goal.returns-in-None-clause-prefs
 returns-in-None-clause-prefs g c = λ m ts x holds told.
-    ap (option_map (λ (e : IndexEntry). e.prefs)) (sym c.in-None.is ∙ index_read m ts c.args.index.now x told c.in_ok-entry.field-0 (c.in_ok-entry.ensures.value m holds))
+    let read = index_read m ts c.args.index.now x told c.in_ok-entry.field-0 (c.in_ok-entry.ensures.value m holds) in
+    ap (option_map (λ (e : IndexEntry). e.prefs)) (sym c.in-None.is ∙ read.1) ∙ ap Some read.2.prefs
 
 pub returns-in-Some-clause-no_entry : goal.returns-in-Some-clause-no_entry
 returns-in-Some-clause-no_entry g c = λ m holds none.
