@@ -1,0 +1,22 @@
+use Rattle.std.proofs.Common.{refl, ap}
+use Rattle.ix_rows.specs.Stores.{Tidiness}
+use Rattle.ix_context.specs.Levels.{Fast}
+use Rattle.ix_context.specs.Places.{place_bytes}
+use Rattle.ix_context.specs.Spelling.{index_change}
+use Rattle.ix_optimize.specs.Optimising.{rows_renewed}
+use Rattle.ix_optimize.specs.laws.Shapes.{puts_shaped}
+use Rattle.ix_optimize.proofs.OptimizeSteps.{entry_behind}
+use Rattle.ix_optimize.proofs.optimizing.optimize_fast.Goals as goal
+
+pub returns-clause-optimised : goal.returns-clause-optimised
+returns-clause-optimised g c = λ m holds only rows has.
+    let e = c.args.entry.now in
+    record {
+      changes =
+          entry_behind c.args.batch.now c.repack_all.new.batch c.put_tidied.new.batch (rows_renewed m c.args.index.now Fast e.place rows) _ _ (c.in_ok-repack_all.ensures.changes m holds only rows has)
+          c.in_ok-put_tidied.ensures.adds (ap (λ (t : Tidiness). index_change c.args.index.now e.target e.prefs e.next_document t (place_bytes e.place)) c.packed-tidiness.ensures);
+      told = refl;
+    }
+
+pub returns-clause-shaped : goal.returns-clause-shaped
+returns-clause-shaped g c = λ are. c.in_ok-put_tidied.ensures.shaped (puts_shaped c.args.index.now c.as_str-named.ensures.name c.args.batch.now c.repack_all.new.batch c.in_ok-repack_all.ensures.puts are)

@@ -1,0 +1,4 @@
+pub mod Optimising
+pub mod Alike
+pub mod Limited
+pub mod laws

@@ -1,0 +1,3 @@
+pub mod TermSteps
+pub mod JoinSteps
+pub mod WalkSteps
