@@ -4,7 +4,7 @@ use Rattle.std.specs.Prelude.{is_some}
 use Rattle.std.specs.FinMap.{get}
 use Rattle.std.proofs.lemmas.List.{take_more, take_all, map-append, length-map}
 use Rattle.ct_base.specs.declared.numbers.RowKey.{RowKey}
-use Rattle.ct_keep.specs.Content.{Content, after}
+use Rattle.ct_keep.specs.Content.{Content, after, weight}
 use Rattle.ct_entry.specs.Keys.{Key, at}
 use Rattle.ct_entry.specs.Each.{each}
 use Rattle.ct_entry.specs.Lists.{IsIn}
@@ -19,7 +19,7 @@ use Rattle.tb_table.specs.Tables.{Table, row_in}
 use Rattle.tb_table.specs.Spelling.{delete_changes}
 use Rattle.tb_table.specs.Shapes.{HasTableValue}
 use Rattle.cat_index.specs.Sees.{AreThere}
-use Rattle.ix_indexes.specs.Noting.{AllDrop, Noted}
+use Rattle.ix_indexes.specs.Noting.{AllDrop}
 use Rattle.ix_indexes.specs.laws.Dropping.{drop-append, drop_spelt}
 use Rattle.ix_indexes.specs.Shapes.{HasIndexValue}
 use Rattle.db_cond.specs.declared.faults.Fault.{Fault}
@@ -30,11 +30,12 @@ use Rattle.db_rows.specs.Meeting.{meeting_keys}
 use Rattle.db_state.specs.States.{StoreState, StandsForState}
 use Rattle.db_state.specs.Effects.{Effect, Refused, Does, Checks, with_found}
 use Rattle.db_state.specs.Shapes.{AreStoreChanges, HasStoreValue}
+use Rattle.db_state.specs.laws.Serving.{removals_behind}
 use Rattle.db_change.proofs.ShapeSteps.{row_and_notes, shaped_alone}
 use Rattle.db_change.specs.Noting.{noted_on}
-use Rattle.db_change.specs.Deleting.{delete_from, delete_rows, gone_rows_changes, rows_deleted, without_rows}
+use Rattle.db_change.specs.Deleting.{TakesFromTable, all_gone_changes, delete_from, delete_rows, rows_deleted, without_rows}
 use Rattle.db_change.specs.laws.MetRows.{met_apart, met_there}
-use Rattle.db_change.specs.laws.GoneRows.{gone_rows_stand, delete_drops}
+use Rattle.db_change.specs.laws.GoneRows.{gone_rows_stand, delete_drops, drops_weigh_nothing}
 
 -- ---- the changes of each of several, one after the other
 
@@ -78,6 +79,16 @@ pub row_shaped : (a : List (Key × Option (List ℕ))) (empty own notes new : Li
     → AreShaped HasTableValue (spell a) → AreShaped HasIndexValue notes → new ≡ own ++ notes → AreStoreChanges new
 row_shaped a empty own notes new none changes rows noted is = row_and_notes own new notes (shaped_alone HasTableValue empty own (spell a) none changes rows) is noted
 
+-- those of a table, and of the indexes on it
+pub table_made : (a b : List (Key × Option (List ℕ))) (first more new : List (List ℕ × Option (List ℕ))) → first ≡ spell a → more ≡ spell b → new ≡ first ++ more → new ≡ spell (a ++ b)
+table_made a b first more new lost changes is =
+    is ∙ ap (λ (ws : List (List ℕ × Option (List ℕ))). ws ++ more) lost ∙ ap (λ (ws : List (List ℕ × Option (List ℕ))). spell a ++ ws) changes ∙ sym (spell-append a b)
+
+-- what they make of a content is no heavier
+pub table_light : (c : Content) (first more new : List (List ℕ × Option (List ℕ))) → weight (after first c) ≤ weight c → AllDrop more → new ≡ first ++ more → weight (after new c) ≤ weight c
+table_light c first more new light dropped is =
+    subst (λ (ws : List (List ℕ × Option (List ℕ))). weight (after ws c) ≤ weight c) (sym is) (removals_behind first more c light (drops_weigh_nothing more dropped))
+
 -- those of a row more
 pub changes_added : (batch more new ws : List (List ℕ × Option (List ℕ))) → more ≡ ws → new ≡ batch ++ more → new ≡ batch ++ ws
 changes_added batch more new ws are is = is ∙ ap (λ (b : List (List ℕ × Option (List ℕ))). batch ++ b) are
@@ -119,14 +130,13 @@ module _ (m : StoreState) (t : List ℕ) (conds : List Cond) where
     pub delete_refused : (fault : Fault) → ((done : Effect) → Checks (Some fault) (check_conds columns conds done) done) → delete_from m t conds ≡ Refused (refusal_of fault)
     delete_refused fault checks = delete_some ∙ checks (delete_rows m t (meeting_keys x conds))
 
-    module _ (c : Content) (stands : StandsForState c m) (es : List (List ℕ × Noted)) (noted : es ≡ noted_on m.indexes t) (rows : List RowKey) (met : map (λ row. row.0) rows ≡ meeting_keys x conds)
-        (batch : List (List ℕ × Option (List ℕ))) (changes : batch ≡ spell (gone_rows_changes (at c) m.tables t columns es (map (λ row. row.0) rows))) where
-      batch_is : batch ≡ spell (gone_rows_changes (at c) m.tables t x.columns (noted_on m.indexes t) (meeting_keys x conds))
+    module _ (c : Content) (stands : StandsForState c m) (rows : List RowKey) (met : map (λ row. row.0) rows ≡ meeting_keys x conds) (batch : List (List ℕ × Option (List ℕ)))
+        (changes : TakesFromTable m c t columns (map (λ row. row.0) rows) batch) where
+      batch_is : batch ≡ spell (all_gone_changes c m t x.columns (noted_on m.indexes t) (meeting_keys x conds))
       batch_is =
           changes
-          ∙ ap (λ (cs : List Column). spell (gone_rows_changes (at c) m.tables t cs es (map (λ (row : RowKey). row.0) rows))) (sym same)
-          ∙ ap (λ (es : List (List ℕ × Noted)). spell (gone_rows_changes (at c) m.tables t x.columns es (map (λ (row : RowKey). row.0) rows))) noted
-          ∙ ap (λ (rs : List ℤ). spell (gone_rows_changes (at c) m.tables t x.columns (noted_on m.indexes t) rs)) met
+          ∙ ap (λ (cs : List Column). spell (all_gone_changes c m t cs (noted_on m.indexes t) (map (λ (row : RowKey). row.0) rows))) (sym same)
+          ∙ ap (λ (rs : List ℤ). spell (all_gone_changes c m t x.columns (noted_on m.indexes t) rs)) met
 
       pub delete_done : (count : ℕ) → count ≡ length rows → ((done : Effect) → Checks None (check_conds columns conds done) done)
           → (n : StoreState) × (delete_from m t conds ≡ Does n (rows_deleted count)) × StandsForState (after batch c) n

@@ -1,5 +1,5 @@
 -- Steps of loading the indexes on a table, and the values of rows that they need.
-use Rattle.std.proofs.Common.{◌≡◌, ℕ, ℤ, suc, zero, ◌^◌, Bool, true, false, cond, List, [], ◌∷◌, map, filter, length, Option, Some, refl, sym, ap, subst, ◌∙◌}
+use Rattle.std.proofs.Common.{◌≡◌, ◌≤◌, ℕ, ℤ, suc, zero, ◌^◌, Bool, true, false, cond, List, [], ◌∷◌, map, filter, length, Option, Some, refl, sym, ap, subst, ◌∙◌, arith, inl, inr}
 use Rattle.std.specs.Prelude.{is_some}
 use Rattle.std.specs.List.{All, list_all}
 use Rattle.std.specs.FinMap.{get}
@@ -8,7 +8,11 @@ use Rattle.std.proofs.lemmas.List.Elements.{All-head, All-tail}
 use Rattle.ct_base.specs.declared.lists.Value.{Value}
 use Rattle.ct_base.specs.declared.lists.Value.TheVariants.{Number as NumberValue, Text as TextValue}
 use Rattle.ct_base.specs.laws.Options.{some_value}
-use Rattle.ct_keep.specs.Content.{Content}
+use Rattle.ct_base.specs.declared.numbers.RowKey.{RowKey}
+use Rattle.ct_keep.specs.Content.{Content, after, weight}
+use Rattle.ct_entry.specs.Changes.{spell}
+use Rattle.ct_entry.specs.Shapes.{AreShaped}
+use Rattle.ct_entry.specs.laws.Shapes.{are_shaped_weaker}
 use Rattle.ct_entry.specs.Keys.{at, same_list}
 use Rattle.ct_entry.specs.Maps.{Names}
 use Rattle.st_parse.specs.declared.statements.Assign.{Assign}
@@ -28,13 +32,17 @@ use Rattle.ix_indexes.specs.declared.loading.TableIndex.{TableIndex}
 use Rattle.ix_indexes.specs.Indexes.{Index}
 use Rattle.ix_indexes.specs.Loading.{AreHeadsOf}
 use Rattle.ix_indexes.specs.laws.Held.{noted_held, some_held}
-use Rattle.ix_indexes.specs.Noting.{AllCanTell, AreHeld, HasShortTexts, HoldsIndexes, Noted, noted_by, noted_index, noted_indexes, noted_looks_any}
+use Rattle.ix_indexes.specs.laws.Untidies.{noted_are_of}
+use Rattle.ix_indexes.specs.Noting.{AllCanTell, AreHeld, AreNotedOf, HasShortTexts, HoldsIndexes, Noted, all_untidying, noted_by, noted_index, noted_indexes, noted_looks_any}
+use Rattle.ix_indexes.specs.Shapes.{HasIndexValue}
+use Rattle.db_state.specs.Shapes.{AreStoreChanges, HasStoreValue}
 use Rattle.db_state.specs.States.{StoreState, StandsForState}
 use Rattle.db_state.specs.laws.Heads.{heads_stand, store_heads}
 use Rattle.db_change.specs.Inserting.{IsShortValue, kept_value}
-use Rattle.db_change.specs.Noting.{heads_on, is_short_value, names_on, noted_on, noted_set}
+use Rattle.db_change.specs.Noting.{heads_on, is_short_value, lost_changes, names_on, noted_on, noted_set}
 use Rattle.db_change.specs.Updating.{IsShortAssign, set_in, updated_values, value_after}
 use Rattle.db_change.specs.laws.NewRows.{indexes_hold}
+use Rattle.db_change.specs.laws.SetIndexes.{names_set, noted_on_columns}
 
 -- ---- the heads of the indexes
 
@@ -45,6 +53,34 @@ heads_are ts xs t x here (e ∷ es) all =
       record { head = first.0; columns = sym (ap (λ (q : List ℕ). (table_at ts q).columns) first.1 ∙ ap (λ (o : Option Table). (table_or_none o).columns) here) },
       heads_are ts xs t x here es (All-tail (λ (e : List ℕ × IndexHead). (get (store_heads xs) e.0 ≡ Some e.1) × (e.1.target.table ≡ t)) e es all),
     )
+
+-- where no row is lost nothing is put, and else what the indexes are told
+module _ (c : Content) (m : StoreState) (es : List (List ℕ × Noted)) where
+  pub lost_none : (rows : List RowKey) (batch : List (List ℕ × Option (List ℕ))) → length rows ≡ 0 → batch ≡ [] → batch ≡ spell (lost_changes c m es (map (λ row. row.0) rows))
+  lost_none [] batch none empty = empty
+  lost_none (r ∷ rows) batch none empty = absurd (omega (arith, none))
+
+  pub lost_some : (rows : List RowKey) (batch : List (List ℕ × Option (List ℕ))) → (length rows ≡ 0 → ⊥) → batch ≡ spell (all_untidying (at c) m.indexes es) → batch ≡ spell (lost_changes c m es (map (λ row. row.0) rows))
+  lost_some [] batch some noted = absurd (some refl)
+  lost_some (r ∷ rows) batch some noted = noted
+
+-- what was put is no heavier where that is nothing
+pub none_light : (c : Content) (batch : List (List ℕ × Option (List ℕ))) → batch ≡ [] → weight (after batch c) ≤ weight c
+none_light c batch empty = subst (λ (ws : List (List ℕ × Option (List ℕ))). weight (after ws c) ≤ weight c) (sym empty) (omega arith)
+
+pub none_shaped : (batch : List (List ℕ × Option (List ℕ))) → batch ≡ [] → AreStoreChanges batch
+none_shaped batch empty = subst AreStoreChanges (sym empty) tt
+
+pub notes_shaped : (batch : List (List ℕ × Option (List ℕ))) → AreShaped HasIndexValue batch → AreStoreChanges batch
+notes_shaped batch are = are_shaped_weaker HasIndexValue HasStoreValue (λ k value has. inr (inl has)) batch are
+
+-- what was noted of the indexes on a table is of these, and so is that of those that look at some columns
+module _ (m : StoreState) (t : List ℕ) where
+  pub noted_are : (es : List (List ℕ × Noted)) → es ≡ noted_on m.indexes t → AreNotedOf m.indexes es
+  noted_are es is = subst (AreNotedOf m.indexes) (sym is) (noted_are_of m.indexes (names_on m.indexes t))
+
+  pub set_are : (places : List ℕ) (es : List (List ℕ × Noted)) → es ≡ noted_set places (noted_on m.indexes t) → AreNotedOf m.indexes es
+  set_are places es is = subst (AreNotedOf m.indexes) (sym (is ∙ noted_on_columns places m.indexes t)) (noted_are_of m.indexes (names_set places m.indexes t))
 
 module _ (c : Content) (m : StoreState) (t : List ℕ) (stands : StandsForState c m) where
   pub holds_indexes : HoldsIndexes c m.tables m.indexes

@@ -25,7 +25,7 @@ use Rattle.db_state.specs.Plans.{IsPlan}
 use Rattle.db_state.specs.declared.plans.Plan.TheVariants.{Done}
 use Rattle.db_change.specs.Inserting.{is_of_sort, is_too_long}
 use Rattle.ix_indexes.specs.Noting.{Noted, noted_named}
-use Rattle.db_change.specs.Updating.{assign_columns, sets_key, has_twice, of_its_sort, places_set, check_update, with_updates, rows_updated, update_rows, update, indexes_set, update_changes, IsKeptAssign, UpdatesTable}
+use Rattle.db_change.specs.Updating.{assign_columns, sets_key, has_twice, of_its_sort, places_set, check_update, with_updates, rows_updated, update_rows, update, indexes_set, all_update_changes, IsKeptAssign, UpdatesTable}
 use Rattle.db_change.specs.laws.SetValues.{SetFits, others_fit_set}
 use Rattle.db_change.specs.laws.SetIndexes.{named_on_columns, names_set, noted_on_columns}
 use Rattle.db_change.specs.laws.ChangedRows.{changed_rows_stand}
@@ -75,12 +75,12 @@ module _ (m : StoreState) (t : List ℕ) (assigns : List Assign) (conds : List C
         names : List (List ℕ)
         names = names_set (places_set x.columns assigns) m.indexes t
 
-        whole : batch ≡ spell (update_changes k m t (others x.columns) assigns (noted_named m.indexes names) (meeting_keys x conds))
+        whole : batch ≡ spell (all_update_changes k m t (others x.columns) assigns (noted_named m.indexes names) (meeting_keys x conds))
         whole =
             batch_is
-            ∙ ap (λ (rs : List ℤ). spell (update_changes k m t (others columns) assigns (indexes_set m t columns assigns) rs)) rows_are
-            ∙ ap (λ (cs : List Column). spell (update_changes k m t (others cs) assigns (indexes_set m t cs assigns) (meeting_keys x conds))) (sym columns_are)
-            ∙ ap (λ (es : List (List ℕ × Noted)). spell (update_changes k m t (others x.columns) assigns es (meeting_keys x conds))) (noted_on_columns (places_set x.columns assigns) m.indexes t)
+            ∙ ap (λ (rs : List ℤ). spell (all_update_changes k m t (others columns) assigns (indexes_set m t columns assigns) rs)) rows_are
+            ∙ ap (λ (cs : List Column). spell (all_update_changes k m t (others cs) assigns (indexes_set m t cs assigns) (meeting_keys x conds))) (sym columns_are)
+            ∙ ap (λ (es : List (List ℕ × Noted)). spell (all_update_changes k m t (others x.columns) assigns es (meeting_keys x conds))) (noted_on_columns (places_set x.columns assigns) m.indexes t)
 
         fits : SetFits assigns (others x.columns)
         fits =

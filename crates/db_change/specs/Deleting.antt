@@ -28,6 +28,7 @@ use Rattle.db_rows.specs.Checking.{check_conds}
 use Rattle.db_rows.specs.Meeting.{meeting_keys}
 use Rattle.db_state.specs.States.{StoreState}
 use Rattle.db_state.specs.Effects.{Effect, Does, with_found}
+use Rattle.db_change.specs.Noting.{lost_changes, noted_on}
 
 -- The table without these rows, and each index on it without their marks: row by row, since what a settled row wastes in an index is
 -- what its document costs there.
@@ -59,6 +60,10 @@ gone_row_changes f ts t columns indexes r = delete_changes t columns r ++ all_no
 abbrev pub gone_rows_changes : (Key → Option (List ℕ)) → Tables → List ℕ → List Column → List (List ℕ × Noted) → List ℤ → List (Key × Option (List ℕ))
 gone_rows_changes f ts t columns indexes rows = each (gone_row_changes f ts t columns indexes) rows
 
+-- and first the indexes that are tidy are so no more
+abbrev pub all_gone_changes : Content → StoreState → List ℕ → List Column → List (List ℕ × Noted) → List ℤ → List (Key × Option (List ℕ))
+all_gone_changes c m t columns indexes rows = lost_changes c m indexes rows ++ gone_rows_changes (at c) m.tables t columns indexes rows
+
 -- The batch takes this row from a table with these columns, and from each of these indexes.
 abbrev pub TakesRow : StoreState → Content → List ℕ → List Column → List TableIndex → ℤ → List (List ℕ × Option (List ℕ)) → Type 0
 TakesRow m c t columns indexes r batch = batch ≡ spell (gone_row_changes (at c) m.tables t columns (noted_indexes indexes) r)
@@ -67,12 +72,16 @@ TakesRow m c t columns indexes r batch = batch ≡ spell (gone_row_changes (at c
 abbrev pub TakesRows : StoreState → Content → List ℕ → List Column → List TableIndex → List ℤ → List (List ℕ × Option (List ℕ)) → Type 0
 TakesRows m c t columns indexes rows batch = batch ≡ spell (gone_rows_changes (at c) m.tables t columns (noted_indexes indexes) rows)
 
+-- The batch takes these rows from a table with these columns, and from each index on it.
+abbrev pub TakesFromTable : StoreState → Content → List ℕ → List Column → List ℤ → List (List ℕ × Option (List ℕ)) → Type 0
+TakesFromTable m c t columns rows batch = batch ≡ spell (all_gone_changes c m t columns (noted_on m.indexes t) rows)
+
 -- computed examples: where no row meets the conditions, nothing is changed
 nothing_to_delete : (m : StoreState) (t : List ℕ) → without_rows m t [] ≡ m
 nothing_to_delete m t = refl
 
-no_changes : (f : Key → Option (List ℕ)) (ts : Tables) (t : List ℕ) (columns : List Column) (indexes : List (List ℕ × Noted)) → gone_rows_changes f ts t columns indexes [] ≡ []
-no_changes f ts t columns indexes = refl
+no_changes : (c : Content) (m : StoreState) (t : List ℕ) (columns : List Column) (indexes : List (List ℕ × Noted)) → all_gone_changes c m t columns indexes [] ≡ []
+no_changes c m t columns indexes = refl
 
 -- a row goes from a CONTEXT index where it is the document that the entries before name, or waits; from a catalogue by its values; and from a rule index under
 -- the keys that the entry of its rule tells

@@ -1,5 +1,5 @@
 -- The indexes on a table, as the statements that change its rows need them.
-use Rattle.std.specs.Prelude.{ℕ, ℤ, ◌≡◌, ◌^◌, nat_le, Bool, true, List, [], ◌∷◌, length, map, filter, Some, is_some, Vec, codes, refl}
+use Rattle.std.specs.Prelude.{ℕ, ℤ, ◌≡◌, ◌^◌, nat_le, Bool, true, List, [], ◌∷◌, length, map, filter, Option, Some, is_some, Vec, codes, refl}
 use Rattle.std.specs.FinMap.{get}
 use Rattle.std.specs.declared.alloc.Global.{Global}
 use Rattle.ct_base.specs.declared.lists.Value.{Value}
@@ -7,6 +7,7 @@ use Rattle.ct_base.specs.declared.lists.Value.TheVariants.{Number, Text}
 use Rattle.ct_base.specs.declared.numbers.RowKey.{RowKey}
 use Rattle.ct_keep.specs.Content.{Content}
 use Rattle.ct_keep.specs.KeeperViews.{KeeperView}
+use Rattle.ct_entry.specs.Keys.{Key, at}
 use Rattle.ct_entry.specs.Maps.{Names}
 use Rattle.tb_table.specs.declared.columns.Column.{Column}
 use Rattle.tb_table.specs.Tables.{Table}
@@ -17,7 +18,7 @@ use Rattle.db_state.specs.States.{StoreState, OverNamedTable}
 use Rattle.db_state.specs.laws.Heads.{store_heads}
 use Rattle.ix_indexes.specs.declared.loading.TableIndex.{TableIndex}
 use Rattle.ix_indexes.specs.Indexes.{Index}
-use Rattle.ix_indexes.specs.Noting.{InContext, Noted, noted_indexes, noted_looks_any, noted_named}
+use Rattle.ix_indexes.specs.Noting.{InContext, Noted, all_untidying, noted_indexes, noted_looks_any, noted_named}
 
 -- with their heads, in the order of their keys
 abbrev pub heads_on : Names Index → List ℕ → List (List ℕ × IndexHead)
@@ -34,6 +35,17 @@ noted_on xs t = noted_named xs (names_on xs t)
 -- of several, those that look at one of these columns
 abbrev pub noted_set : List ℕ → List (List ℕ × Noted) → List (List ℕ × Noted)
 noted_set places es = filter (λ e. noted_looks_any places e.1) es
+
+-- ---- rows are lost
+
+-- what is put before the first of several rows; nothing, where there is none
+abbrev pub before_first : List ℤ → List (Key × Option (List ℕ)) → List (Key × Option (List ℕ))
+before_first [] ws = []
+before_first (r ∷ rows) ws = ws
+
+-- where these rows are lost, each of the indexes that is tidy is so no more: its entry says so, once
+abbrev pub lost_changes : Content → StoreState → List (List ℕ × Noted) → List ℤ → List (Key × Option (List ℕ))
+lost_changes c m es rows = before_first rows (all_untidying (at c) m.indexes es)
 
 -- whether no text is longer than texts that can be read: each of a table is shorter
 abbrev pub is_short_value : Value → Bool
@@ -61,7 +73,10 @@ WhereRow view old t columns r holds = WhereTable view old t columns (λ m c x. i
 abbrev pub WhereRows : {K : Type 0} → (K → KeeperView) → K → List ℕ → List Column → List RowKey → (StoreState → Content → List ℤ → Type 0) → Type 0
 WhereRows view old t columns rows holds = WhereTable view old t columns (λ m c x. AreThere x rows → holds m c (map (λ row. row.0) rows))
 
--- computed examples: of two indexes, on the columns 1 and 2, the second where the column 2 is set
+-- computed examples: where no row is lost, the entries of indexes stay; of two indexes, on the columns 1 and 2, the second where the column 2 is set
+nothing_lost : (c : Content) (m : StoreState) (es : List (List ℕ × Noted)) → lost_changes c m es [] ≡ []
+nothing_lost c m es = refl
+
 of_column_two : noted_set (2 ∷ []) ((codes "di", InContext 1) ∷ (codes "dj", InContext 2) ∷ []) ≡ (codes "dj", InContext 2) ∷ []
 of_column_two = refl
 

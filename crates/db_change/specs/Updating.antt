@@ -34,7 +34,7 @@ use Rattle.db_rows.specs.Values.{row_values, values_behind_key}
 use Rattle.db_state.specs.Columns.{first_unknown, column_place}
 use Rattle.db_state.specs.States.{StoreState}
 use Rattle.db_state.specs.Effects.{Effect, Does, Refused, refuse, refuse_by, with_found}
-use Rattle.db_change.specs.Noting.{noted_on, noted_set}
+use Rattle.db_change.specs.Noting.{lost_changes, noted_on, noted_set}
 use Rattle.db_change.specs.Inserting.{is_of_sort, is_too_long, kept_value, number_value, text_value, IsNumberKept, IsTextKept, IsShortValue}
 
 -- ---- the values that are set
@@ -170,6 +170,10 @@ row_update_changes c m t columns assigns indexes r =
 abbrev pub update_changes : Content → StoreState → List ℕ → List Column → List Assign → List (List ℕ × Noted) → List ℤ → List (Key × Option (List ℕ))
 update_changes c m t columns assigns indexes rows = each (λ r. row_update_changes c m t columns assigns indexes r) rows
 
+-- and first the indexes that are tidy are so no more
+abbrev pub all_update_changes : Content → StoreState → List ℕ → List Column → List Assign → List (List ℕ × Noted) → List ℤ → List (Key × Option (List ℕ))
+all_update_changes c m t columns assigns indexes rows = lost_changes c m indexes rows ++ update_changes c m t columns assigns indexes rows
+
 -- The changes tell these indexes of a row of a table with these columns.
 abbrev pub TellsOfRow : Content → Table → List Column → List Assign → List TableIndex → ℤ → List (List ℕ × Option (List ℕ)) → Type 0
 TellsOfRow c x columns assigns indexes r notes = notes ≡ spell (all_noted_changes (at c) (changing (others columns) assigns r (get x.rows r)) (noted_indexes indexes))
@@ -184,7 +188,7 @@ UpdatesRows c m t columns assigns indexes rows batch = batch ≡ spell (update_c
 
 -- The batch updates these rows of a table with these columns, in each index that looks at a column that is set.
 abbrev pub UpdatesTable : Content → StoreState → List ℕ → List Column → List Assign → List ℤ → List (List ℕ × Option (List ℕ)) → Type 0
-UpdatesTable c m t columns assigns rows batch = batch ≡ spell (update_changes c m t (others columns) assigns (indexes_set m t columns assigns) rows)
+UpdatesTable c m t columns assigns rows batch = batch ≡ spell (all_update_changes c m t (others columns) assigns (indexes_set m t columns assigns) rows)
 
 -- computed examples
 abbrev set_price : Operand → Assign

@@ -1,3 +1,4 @@
+pub mod LostRows
 pub mod NewRows
 pub mod NewTables
 pub mod GoneRows

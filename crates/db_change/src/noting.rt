@@ -1,20 +1,24 @@
 //! The indexes on a table, as changes of its rows need them, and the values of rows that they need.
 #![tactic(auto, using(ct_keep::specs::laws::Composing::reads_on, ct_keep::specs::laws::Composing::reads_short))]
 
-ghost use Rattle.std.specs.Prelude.{◌≡◌, IfOk, true, map};
+ghost use Rattle.std.specs.Prelude.{◌≡◌, ◌≤◌, IfOk, true, map};
 ghost use Rattle.std.specs.List.{list_all};
 ghost use Rattle.std.specs.Option.{option_map};
-ghost use Rattle.ct_keep.specs.KeeperViews.{OnlyReads};
-ghost use Rattle.ix_indexes.specs.Noting.{AllCanTell, HasShortTexts, any_needs_values};
+ghost use Rattle.ct_keep.specs.Content.{after, weight};
+ghost use Rattle.ct_keep.specs.KeeperViews.{Finds, OnlyReads};
+ghost use Rattle.ct_entry.specs.Changes.{spell};
+ghost use Rattle.ix_indexes.specs.Noting.{AllCanTell, AreNotedOf, HasShortTexts, any_needs_values, noted_indexes};
+ghost use Rattle.db_state.specs.Shapes.{AreStoreChanges};
+ghost use Rattle.db_state.specs.States.{OverStates};
 ghost use Rattle.db_change.specs.Inserting.{kept_value};
 ghost use Rattle.db_change.specs.Updating.{updated_values as values_changed, value_after as value_then};
-ghost use Rattle.db_change.specs.Noting.{AreNoted, AreValuesOf, WhereTable, is_short_value, noted_on};
+ghost use Rattle.db_change.specs.Noting.{AreNoted, AreValuesOf, WhereTable, is_short_value, lost_changes, noted_on};
 
 use crate::updating::set_in;
 use ct_base::{Memory, Name, RowKey, Text, Value};
-use ct_keep::{KeepFault, Keeper};
+use ct_keep::{Batch, KeepFault, Keeper};
 use db_names::indexes_of;
-use ix_indexes::{TableIndex, needs_values, table_indexes};
+use ix_indexes::{TableIndex, needs_values, table_indexes, untidy_notes};
 use st_parse::{Assign, Operand, Whole};
 use std::alloc::Global;
 use tb_table::Column;
@@ -38,6 +42,28 @@ pub(crate) fn indexes_on<K: Keeper>(
 {
     let heads = indexes_of(alloc, keeper, table)?;
     table_indexes(alloc, keeper, &heads, columns)
+}
+
+/// The changes by which each of these indexes that is tidy is so no more, since these rows are lost: none where there is no row.
+///
+/// It takes a look-up for each CONTEXT index. What it puts is as long as what was there. It never answers Full.
+pub(crate) fn lost_notes<K: Keeper>(
+    alloc: Global,
+    keeper: &mut K,
+    indexes: &[TableIndex],
+    rows: &[RowKey],
+) -> Result<Batch, KeepFault>
+    requires { (K.view keeper.old).ready }
+    ensures changes { OverStates K.view keeper.old (λ m c. AreNotedOf m.indexes (noted_indexes indexes.now) → IfOk result (λ notes. notes ≡ spell (lost_changes c m (noted_indexes indexes.now) (map (λ row. row.0) rows.now)))) }
+    ensures light { Finds K.view keeper.old result (λ m notes. weight (after notes m) ≤ weight m) }
+    ensures shaped { IfOk result AreStoreChanges }
+    ensures reads { OnlyReads K.view keeper.old keeper.new result }
+{
+    if rows.is_empty() {
+        return Ok(Batch::new(alloc));
+    }
+    let notes = untidy_notes(alloc, keeper, indexes)?;
+    Ok(notes)
 }
 
 // ---- the values of a row that is there

@@ -22,7 +22,7 @@ ghost use Rattle.db_change.specs.Updating.{indexes_set as indexes_of_set, number
 use crate::assigning::update_fault;
 use crate::inserting::{column_of, number_in};
 use crate::keeping::keep_assigns;
-use crate::noting::{indexes_on, updated_values, values_needed};
+use crate::noting::{indexes_on, lost_notes, updated_values, values_needed};
 use ct_base::{Memory, Name, RowKey, Text};
 use ct_keep::{Batch, KeepFault, Keeper};
 use db_cond::{Fault, rows_line};
@@ -307,7 +307,8 @@ fn rows_batch<K: Keeper>(
     Ok(batch)
 }
 
-/// The changes of these rows of a table with these columns, in each index that looks at a column that is set.
+/// The changes of these rows of a table with these columns, in each index that looks at a column that is set; of these those that are
+/// tidy are so no more.
 fn update_batch<K: Keeper>(
     alloc: Global,
     keeper: &mut K,
@@ -324,7 +325,10 @@ fn update_batch<K: Keeper>(
     ensures reads { OnlyReads K.view keeper.old keeper.new result }
 {
     let indexes = indexes_set(alloc, keeper, table, columns, assigns)?;
-    rows_batch(alloc, keeper, table, columns, assigns, &indexes, rows)
+    let mut batch = lost_notes(alloc, keeper, &indexes, rows)?;
+    let changes = rows_batch(alloc, keeper, table, columns, assigns, &indexes, rows)?;
+    batch.append(changes)?;
+    Ok(batch)
 }
 
 // ---- the statement

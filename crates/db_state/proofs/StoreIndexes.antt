@@ -27,13 +27,14 @@ use Rattle.ix_docmap.specs.Marks.{is_settled}
 use Rattle.ix_context.specs.Standing.{PartStands}
 use Rattle.ix_kinds.specs.Rows.{table_at}
 use Rattle.ix_kinds.specs.Indextypes.{with_body}
+use Rattle.ix_kinds.specs.Statements.{place_of}
 use Rattle.ix_kinds.specs.laws.Tables.{table_is}
 use Rattle.ix_context.specs.Indexes.{mark_limit}
 use Rattle.cat_index.specs.Shapes.{IsWordPart}
 use Rattle.cat_index.specs.laws.Well.{entry_well, row_well}
-use Rattle.ix_indexes.specs.Indexes.{Body, Defined, Index, index_entry, kinds, IndexesStand, AreIndexes, IsIndex, as_catalogue, as_rules, marks_in, part_in, mark_of, mark_at, part_of, postings_in}
+use Rattle.ix_indexes.specs.Indexes.{Body, Defined, Index, index_entry, kinds, StandsUnder, IndexesStand, AreIndexes, IsIndex, as_catalogue, as_rules, marks_in, part_in, mark_of, mark_at, part_of, postings_in}
 use Rattle.ix_indexes.specs.Shapes.{HasIndexValue}
-use Rattle.ix_indexes.specs.laws.Indexes.{context_at, entry_at, kind_is, catalogue_is, catalogue_at, filed_in, is_of_rules, marked_row, rules_are, rules_at, ruled_in}
+use Rattle.ix_indexes.specs.laws.Indexes.{context_at, entry_at, resumes_at, kind_is, catalogue_is, catalogue_at, filed_in, is_of_rules, marked_row, rules_are, rules_at, ruled_in}
 use Rattle.ix_context.specs.Shapes.{HasContextValue, StartsAt, IsRowFrom, IsSpanRowFrom}
 use Rattle.ix_context.specs.laws.Well.{length-entry_le}
 use Rattle.rule_index.specs.RuleIndexes.{RuleIndex, RuleMark, mark_of as rule_of}
@@ -75,36 +76,52 @@ module _ (f : Key → Option (List ℕ)) (ts : Tables) (xs : Names Index) (table
           (marked_row ts x tables rules r (ap is_some (settled_there (marks_in x.body r) settled)), within.0, omega (arith, within.1, few))
 
   -- the entry of an index, by its kind
-  its_value : (i : List ℕ) (x : Index) → IsIndex ts x → HasIndexValue (key kind.Indexes i []) (index_entry x) × (length (index_entry x) ≤ value_limit)
-  its_value i x index = go x.body (kind_is ts x index)
+  abbrev pub IsWell : List ℕ → List ℕ → Type 0
+  IsWell i v = HasIndexValue (key kind.Indexes i []) v × (length v ≤ value_limit)
+
+  its_value : (i : List ℕ) (x : Index) (place : List ℕ) → IsIndex ts x → kinds.resumes x.body place → IsWell i (index_entry x place)
+  its_value i x place index resumes = go x.body (kind_is ts x index) resumes
     where
-      go : (b : Body) → kinds.is (table_at ts x.table) (with_body x b) → HasIndexValue (key kind.Indexes i []) (index_entry (with_body x b)) × (length (index_entry (with_body x b)) ≤ value_limit)
-      go (inl b) is =
+      go : (b : Body) → kinds.is (table_at ts x.table) (with_body x b) → kinds.resumes b place → IsWell i (index_entry (with_body x b) place)
+      go (inl b) is resumes =
           let name = tables.names x.table index.target.table index.target.there in
           let few = column_few ts tables x.table x.column index.target in
           let most = is.numbers in
-          let long = length-entry_le x.table x.column x.prefs (b.part.given + 1) name index.prefs in
-          let same = entry_is Defined (with_body x b) in (
-            inl (record { table = x.table; column = x.column; prefs = x.prefs; next = b.part.given + 1; named = name; place = omega (arith, few); are = index.prefs; fits = omega (arith, most); spelt = sym same }),
+          let long = length-entry_le x.table x.column x.prefs (b.part.given + 1) b.part.tidiness place name index.prefs resumes in
+          let same = entry_is Defined (with_body x b) place in (
+            inl (record {
+              table = x.table;
+              column = x.column;
+              prefs = x.prefs;
+              next = b.part.given + 1;
+              tidiness = b.part.tidiness;
+              place = place;
+              named = name;
+              low = omega (arith, few);
+              are = index.prefs;
+              fits = omega (arith, most);
+              resumes = resumes;
+              spelt = sym same;
+            }),
             omega (arith, long, ap length same),
           )
-      go (inr (inl b)) is =
+      go (inr (inl b)) is resumes =
           let few = column_few ts tables x.table x.column index.target in
           let well = entry_well Defined i (with_body x b) (table_at ts x.table) (tables.names x.table index.target.table index.target.there) (omega (arith, few)) index.prefs is in
-          (inr (inl well.0), well.1)
-      go (inr (inr b)) is =
+          subst (λ (p : List ℕ). IsWell i (index_entry (with_body x (inr (inl b))) p)) (sym resumes) (inr (inl well.0), well.1)
+      go (inr (inr b)) is resumes =
           let name = tables.names x.table index.target.table index.target.there in
           let few = column_few ts tables x.table x.column index.target in
           let long = length-rules_bytes_le x.table x.column x.prefs name index.prefs in
-          let same = rules_entry_is (with_body x b) in (
-            inr (inr (record { table = x.table; column = x.column; prefs = x.prefs; named = name; place = omega (arith, few); are = index.prefs; spelt = sym same })),
-            omega (arith, long, ap length same),
-          )
+          let same = rules_entry_is (with_body x b) in
+          subst (λ (p : List ℕ). IsWell i (index_entry (with_body x (inr (inr b))) p)) (sym resumes)
+          (inr (inr (record { table = x.table; column = x.column; prefs = x.prefs; named = name; place = omega (arith, few); are = index.prefs; spelt = sym same })), omega (arith, long, ap length same))
 
-  pub index_value : (i v : List ℕ) → f (key kind.Indexes i []) ≡ Some v → HasIndexValue (key kind.Indexes i []) v × (length v ≤ value_limit)
+  pub index_value : (i v : List ℕ) → f (key kind.Indexes i []) ≡ Some v → IsWell i v
   index_value i v has =
-      let x = option_map_some index_entry (get xs i) v (sym (entry_at f ts i (get xs i) (stand i)) ∙ has) in
-      subst (λ (w : List ℕ). HasIndexValue (key kind.Indexes i []) w × (length w ≤ value_limit)) x.2 (its_value i x.0 (are.each i x.0 x.1))
+      let x = option_map_some (λ (x : Index). index_entry x (place_of kinds f i x)) (get xs i) v (sym (entry_at f ts i (get xs i) (stand i)) ∙ has) in
+      let resumes = resumes_at f ts i x.0 (subst (StandsUnder f ts i) x.1 (stand i)) in
+      subst (IsWell i) x.2 (its_value i x.0 (place_of kinds f i x.0) (are.each i x.0 x.1) resumes)
 
   -- the entry of a row in a catalogue
   pub filed_value : (i part v : List ℕ) → IsPart kind.Catalogue part → f (key kind.Catalogue i part) ≡ Some v → IsWordPart part × (v ≡ [])

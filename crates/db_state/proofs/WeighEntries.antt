@@ -12,8 +12,9 @@ use Rattle.tb_table.specs.Spelling.{columns_bytes, row_numbers_bytes}
 use Rattle.ix_docmap.specs.Marks.{Mark, Pending, Settled}
 use Rattle.ix_kinds.specs.Rows.{table_at}
 use Rattle.ix_kinds.specs.Indextypes.{with_body}
+use Rattle.ix_kinds.specs.Statements.{place_of}
 use Rattle.cat_index.specs.Entries.{catalogue_entries}
-use Rattle.ix_indexes.specs.Indexes.{Body, Index, index_entry, listed_marks}
+use Rattle.ix_indexes.specs.Indexes.{Body, Index, index_entry, kinds, listed_marks}
 use Rattle.tx_prefs.specs.Room.{preference_entries}
 use Rattle.th_store.specs.Room.{thesaurus_entries}
 use Rattle.db_state.specs.States.{StoreState}
@@ -36,7 +37,13 @@ row_entries t e = entry (key kind.RowNumbers t (row_part e.0)) (row_numbers_byte
 abbrev pub table_entries : List ℕ × Table → List Entry
 table_entries e = entry (key kind.Tables e.0 []) (columns_bytes e.1.columns) ∷ flat_map (row_entries e.0) (entries e.1.rows)
 
--- ---- indexes, but for their rows of postings; `document` is which document each settled row of an index is
+-- ---- indexes, but for their rows of postings; `document` is which document each settled row of an index is, and `place` the place that the entry of a
+-- name ends in
+
+-- which it is by the entries, where this index or none has the name
+abbrev pub place_in : (Key → Option (List ℕ)) → List ℕ → Option Index → List ℕ
+place_in f i None = []
+place_in f i (Some x) = place_of kinds f i x
 
 abbrev pub document_entries : List ℕ → ℤ → Option ℕ → List Entry
 document_entries i r None = []
@@ -52,10 +59,10 @@ filed_entries ts i x (inl c) = []
 filed_entries ts i x (inr (inl b)) = catalogue_entries i (with_body x b) (table_at ts x.table)
 filed_entries ts i x (inr (inr b)) = ruled_entries i b
 
-abbrev pub index_entries : (List ℕ → ℤ → Option ℕ) → Tables → List ℕ × Index → List Entry
-index_entries document ts e = entry (key kind.Indexes e.0 []) (index_entry e.1) ∷ (flat_map (mark_entries document e.0) (listed_marks e.1.body) ++ filed_entries ts e.0 e.1 e.1.body)
+abbrev pub index_entries : (List ℕ → ℤ → Option ℕ) → (List ℕ → List ℕ) → Tables → List ℕ × Index → List Entry
+index_entries document place ts e = entry (key kind.Indexes e.0 []) (index_entry e.1 (place e.0)) ∷ (flat_map (mark_entries document e.0) (listed_marks e.1.body) ++ filed_entries ts e.0 e.1 e.1.body)
 
 -- ---- the state
 
-abbrev pub all_entries : (List ℕ → ℤ → Option ℕ) → StoreState → List Entry
-all_entries document m = flat_map table_entries (entries m.tables) ++ (flat_map (index_entries document m.tables) (entries m.indexes) ++ (preference_entries m.preferences ++ thesaurus_entries m.thesauri))
+abbrev pub all_entries : (List ℕ → ℤ → Option ℕ) → (List ℕ → List ℕ) → StoreState → List Entry
+all_entries document place m = flat_map table_entries (entries m.tables) ++ (flat_map (index_entries document place m.tables) (entries m.indexes) ++ (preference_entries m.preferences ++ thesaurus_entries m.thesauri))

@@ -1,5 +1,5 @@
 -- Each entry that spells an index, but for the rows of postings, is among those of all.
-use Rattle.std.proofs.Common.{◌≡◌, ◌≤◌, ℕ, ℤ, true, length, List, [], Option, Some, None, refl, sym, ap, subst, ◌∙◌, inl, inr}
+use Rattle.std.proofs.Common.{◌≡◌, ◌≤◌, ℕ, ℤ, true, length, List, [], Option, Some, None, refl, sym, ap, subst, ◌∙◌, inl, inr, arith}
 use Rattle.std.specs.Prelude.{is_some}
 use Rattle.std.specs.List.{flat_map}
 use Rattle.std.specs.Int.{to_be_bytes, w32}
@@ -17,14 +17,17 @@ use Rattle.ct_entry.specs.Maps.{Names}
 use Rattle.tb_table.specs.Tables.{Tables}
 use Rattle.ix_docmap.specs.Marks.{Mark, Pending, Settled, is_settled, queued}
 use Rattle.ix_context.specs.Standing.{PartStands}
+use Rattle.ix_context.specs.laws.Places.{length-place_le}
 use Rattle.cat_index.specs.laws.Weights.{entry_listed}
-use Rattle.ix_indexes.specs.Indexes.{Body, Index, index_entry, IndexesStand, as_catalogue, as_rules, listed_marks, marks_in, mark_of, mark_at, part_of, postings_in}
-use Rattle.ix_indexes.specs.laws.Indexes.{context_at, entry_at, catalogue_at, filed_in, is_of_rules, rules_at, ruled_in}
+use Rattle.ix_indexes.specs.Indexes.{Body, Index, index_entry, kinds, StandsUnder, IndexesStand, as_catalogue, as_rules, listed_marks, marks_in, mark_of, mark_at, part_of, postings_in}
+use Rattle.ix_indexes.specs.Room.{longest_place}
+use Rattle.ix_indexes.specs.laws.Indexes.{context_at, entry_at, resumes_at, catalogue_at, filed_in, is_of_rules, rules_at, ruled_in}
 use Rattle.ix_kinds.specs.Rows.{table_at}
+use Rattle.ix_kinds.specs.Statements.{place_of}
 use Rattle.rule_index.specs.RuleIndexes.{RuleIndex, mark_of as rule_of}
 use Rattle.rule_index.specs.Standing.{MarksStand}
 use Rattle.db_state.proofs.RuleEntries.{ruled_entries, waits_listed, query_listed, anchor_listed, fault_listed}
-use Rattle.db_state.proofs.WeighEntries.{Entry, entry, document_entries, mark_entries, filed_entries, index_entries}
+use Rattle.db_state.proofs.WeighEntries.{Entry, entry, document_entries, mark_entries, filed_entries, place_in, index_entries}
 
 -- ---- marks
 
@@ -48,6 +51,14 @@ mark_listed (inl c) r m at = get_in int_cmp-IsAntisymmetric c.marks r m at
 mark_listed (inr (inl b)) r m at = cc
 mark_listed (inr (inr b)) r m at = waits_listed (entries b.marks) r (get b.marks r) m (λ k is. get_in int_cmp-IsAntisymmetric b.marks r k is) at
 
+-- ---- places
+
+-- none is longer than the longest
+place_few : (b : Body) (place : List ℕ) → kinds.resumes b place → length place ≤ longest_place
+place_few (inl c) place is = length-place_le place is
+place_few (inr (inl b)) place is = omega (arith, ap length is)
+place_few (inr (inr b)) place is = omega (arith, ap length is)
+
 -- ---- the entries of indexes
 
 module _ (f : Key → Option (List ℕ)) (ts : Tables) (xs : Names Index) (stand : IndexesStand f ts xs) where
@@ -58,13 +69,24 @@ module _ (f : Key → Option (List ℕ)) (ts : Tables) (xs : Names Index) (stand
   abbrev pub numbers : List ℕ → ℤ → Option ℕ
   numbers i r = (its_part i).document r
 
+  -- the place that the entry of each ends in
+  abbrev pub places : List ℕ → List ℕ
+  places i = place_in f i (get xs i)
+
+  pub places_few : (i : List ℕ) → length (places i) ≤ longest_place
+  places_few i = go (get xs i) (stand i)
+    where
+      go : (o : Option Index) → StandsUnder f ts i o → length (place_in f i o) ≤ longest_place
+      go None s = omega arith
+      go (Some x) s = place_few x.body (place_of kinds f i x) (resumes_at f ts i x s)
+
   -- the entry is among those of all indexes
   abbrev IsListed : Entry → Type 0
-  IsListed e = IsIn e (flat_map (index_entries numbers ts) (entries xs))
+  IsListed e = IsIn e (flat_map (index_entries numbers places ts) (entries xs))
 
   -- what is among an index's entries
-  in_index : (i : List ℕ) (x : Index) (e : Entry) → get xs i ≡ Some x → IsIn e (index_entries numbers ts (i, x)) → IsListed e
-  in_index i x e is h = in_flat_mapped (index_entries numbers ts) (i, x) (entries xs) e (get_in (slice_cmp-IsAntisymmetric nat_cmp-IsAntisymmetric) xs i x is) h
+  in_index : (i : List ℕ) (x : Index) (e : Entry) → get xs i ≡ Some x → IsIn e (index_entries numbers places ts (i, x)) → IsListed e
+  in_index i x e is h = in_flat_mapped (index_entries numbers places ts) (i, x) (entries xs) e (get_in (slice_cmp-IsAntisymmetric nat_cmp-IsAntisymmetric) xs i x is) h
 
   -- what is among a mark's
   in_mark : (i : List ℕ) (x : Index) (r : ℤ) (m : Mark (Unit {0})) (e : Entry) → get xs i ≡ Some x → marks_in x.body r ≡ Some m → IsIn e (mark_entries numbers i (r, m)) → IsListed e
@@ -79,8 +101,8 @@ module _ (f : Key → Option (List ℕ)) (ts : Tables) (xs : Names Index) (stand
 
   pub index_in : (i v : List ℕ) → f (key kind.Indexes i []) ≡ Some v → IsListed (entry (key kind.Indexes i []) v)
   index_in i v has =
-      let x = option_map_some index_entry (get xs i) v (sym (entry_at f ts i (get xs i) (stand i)) ∙ has) in
-      in_index i x.0 _ x.1 (inl (ap (entry (key kind.Indexes i [])) (sym x.2)))
+      let x = option_map_some (λ (x : Index). index_entry x (place_of kinds f i x)) (get xs i) v (sym (entry_at f ts i (get xs i) (stand i)) ∙ has) in
+      in_index i x.0 _ x.1 (inl (ap (entry (key kind.Indexes i [])) (sym x.2 ∙ ap (index_entry x.0) (sym (ap (place_in f i) x.1)))))
 
   pub document_row_in : (i v : List ℕ) (d : ℕ) → IsDocument d → f (key kind.DocumentRows i (document_part d)) ≡ Some v → IsListed (entry (key kind.DocumentRows i (document_part d)) v)
   document_row_in i v d document has =

@@ -20,11 +20,12 @@ use Rattle.ix_kinds.specs.Rows.{table_at}
 use Rattle.ix_kinds.specs.Indextypes.{with_body}
 use Rattle.cat_index.specs.laws.Weights.{entries_weigh}
 use Rattle.rule_index.specs.RuleIndexes.{RuleMark}
+use Rattle.db_names.specs.Heads.{index_head_bytes}
 use Rattle.ix_indexes.specs.Indexes.{Body, Index, index_entry, kinds, listed_if_waits, listed_marks, part_in, postings_in}
 use Rattle.tx_prefs.specs.Room.{preference_entries}
 use Rattle.th_store.specs.Room.{thesaurus_entries}
 use Rattle.db_state.specs.States.{StoreState}
-use Rattle.db_state.specs.Room.{key_weight, text_room, row_room, table_room, index_room, room}
+use Rattle.db_state.specs.Room.{key_weight, text_room, row_room, table_room, longest_place, index_room, room}
 use Rattle.ct_entry.specs.laws.Lists.{sum_by-map-le, sum_by-flat_map-le}
 use Rattle.db_state.proofs.RuleEntries.{ruled_entries, rules_weigh}
 use Rattle.db_state.proofs.WeighEntries.{entry, text_entry, row_entries, table_entries, document_entries, mark_entries, filed_entries, index_entries, all_entries}
@@ -132,34 +133,45 @@ body_weighs document ts i x (inr (inr b)) =
       ap (sum_by (λ r. document_cost i (postings_in ts (Some x) r))) (no_documents (entries b.marks)),
     )
 
-index_weighs : (document : List ℕ → ℤ → Option ℕ) (ts : Tables) (e : List ℕ × Index) → sum_by entry_weight (index_entries document ts e) + postings_room ts e ≤ index_room ts e
-index_weighs document ts e =
+-- an entry has the bytes of its place more than one without a place
+entry_length : (x : Index) (place : List ℕ) → length (index_entry x place) ≡ length (index_entry x []) + length place
+entry_length x place =
+    let head = index_head_bytes (kinds.kind x.body) x.table x.column in
+    omega (arith, length-append head (kinds.rest x ++ place), length-append (kinds.rest x) place, length-append head (kinds.rest x ++ []), length-append (kinds.rest x) [])
+
+index_weighs : (document : List ℕ → ℤ → Option ℕ) (place : List ℕ → List ℕ) (few : (i : List ℕ) → length (place i) ≤ longest_place) (ts : Tables) (e : List ℕ × Index)
+    → sum_by entry_weight (index_entries document place ts e) + postings_room ts e ≤ index_room ts e
+index_weighs document place few ts e =
     omega (
       arith,
-      sum_by-cons entry_weight (entry (key kind.Indexes e.0 []) (index_entry e.1)) (flat_map (mark_entries document e.0) (listed_marks e.1.body) ++ filed_entries ts e.0 e.1 e.1.body),
+      few e.0,
+      entry_length e.1 (place e.0),
+      sum_by-cons entry_weight (entry (key kind.Indexes e.0 []) (index_entry e.1 (place e.0))) (flat_map (mark_entries document e.0) (listed_marks e.1.body) ++ filed_entries ts e.0 e.1 e.1.body),
       body_weighs document ts e.0 e.1 e.1.body,
     )
 
-indexes_weigh : (document : List ℕ → ℤ → Option ℕ) (ts : Tables) (es : List (List ℕ × Index)) → sum_by entry_weight (flat_map (index_entries document ts) es) + sum_by (postings_room ts) es ≤ sum_by (index_room ts) es
-indexes_weigh document ts [] = omega arith
-indexes_weigh document ts (e ∷ es) =
+indexes_weigh : (document : List ℕ → ℤ → Option ℕ) (place : List ℕ → List ℕ) (few : (i : List ℕ) → length (place i) ≤ longest_place) (ts : Tables) (es : List (List ℕ × Index))
+    → sum_by entry_weight (flat_map (index_entries document place ts) es) + sum_by (postings_room ts) es ≤ sum_by (index_room ts) es
+indexes_weigh document place few ts [] = omega arith
+indexes_weigh document place few ts (e ∷ es) =
     omega (
       arith,
-      sum_by-append entry_weight (index_entries document ts e) (flat_map (index_entries document ts) es),
+      sum_by-append entry_weight (index_entries document place ts e) (flat_map (index_entries document place ts) es),
       sum_by-cons (postings_room ts) e es,
       sum_by-cons (index_room ts) e es,
-      index_weighs document ts e,
-      indexes_weigh document ts es,
+      index_weighs document place few ts e,
+      indexes_weigh document place few ts es,
     )
 
 -- ---- the state
 
-pub all_weigh : (document : List ℕ → ℤ → Option ℕ) (m : StoreState) → sum_by entry_weight (all_entries document m) + sum_by (postings_room m.tables) (entries m.indexes) ≤ room m
-all_weigh document m = omega (
+pub all_weigh : (document : List ℕ → ℤ → Option ℕ) (place : List ℕ → List ℕ) → ((i : List ℕ) → length (place i) ≤ longest_place) → (m : StoreState)
+    → sum_by entry_weight (all_entries document place m) + sum_by (postings_room m.tables) (entries m.indexes) ≤ room m
+all_weigh document place few m = omega (
   arith,
-  sum_by-append entry_weight (flat_map table_entries (entries m.tables)) (flat_map (index_entries document m.tables) (entries m.indexes) ++ (preference_entries m.preferences ++ thesaurus_entries m.thesauri)),
-  sum_by-append entry_weight (flat_map (index_entries document m.tables) (entries m.indexes)) (preference_entries m.preferences ++ thesaurus_entries m.thesauri),
+  sum_by-append entry_weight (flat_map table_entries (entries m.tables)) (flat_map (index_entries document place m.tables) (entries m.indexes) ++ (preference_entries m.preferences ++ thesaurus_entries m.thesauri)),
+  sum_by-append entry_weight (flat_map (index_entries document place m.tables) (entries m.indexes)) (preference_entries m.preferences ++ thesaurus_entries m.thesauri),
   sum_by-append entry_weight (preference_entries m.preferences) (thesaurus_entries m.thesauri),
   sum_by-flat_map-le table_entries entry_weight table_room table_weighs (entries m.tables),
-  indexes_weigh document m.tables (entries m.indexes),
+  indexes_weigh document place few m.tables (entries m.indexes),
 )

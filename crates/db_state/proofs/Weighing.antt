@@ -32,7 +32,7 @@ use Rattle.db_state.specs.Room.{room}
 use Rattle.db_state.proofs.WeighEntries.{Entry, entry, table_entries, index_entries, all_entries}
 use Rattle.db_state.proofs.WeighRooms.{all_weigh, settled_keys, postings_room}
 use Rattle.db_state.proofs.WeighTables.{table_in, numbers_in, text_in_all}
-use Rattle.db_state.proofs.WeighIndexes.{numbers, index_in, document_row_in, row_document_in, pending_in, filed_entry_in, rule_in, anchor_in, fault_in}
+use Rattle.db_state.proofs.WeighIndexes.{numbers, places, places_few, index_in, document_row_in, row_document_in, pending_in, filed_entry_in, rule_in, anchor_in, fault_in}
 
 -- a row that is settled is among the settled ones
 in_settled : (r : ℤ) (es : List (ℤ × Mark (Unit {0}))) → is_settled (find int_cmp r es) ≡ true → IsIn r (settled_keys es)
@@ -51,28 +51,31 @@ module _ (c : Content) (m : StoreState) (stands : StandsForState c m) where
   abbrev its_numbers : List ℕ → ℤ → Option ℕ
   its_numbers = numbers (at c) m.tables m.indexes stands.indexes
 
+  abbrev its_places : List ℕ → List ℕ
+  its_places = places (at c) m.tables m.indexes stands.indexes
+
   -- the entry is among all that spell the state
   abbrev IsListed : Key → List ℕ → Type 0
-  IsListed k v = IsIn (entry k v) (all_entries its_numbers m)
+  IsListed k v = IsIn (entry k v) (all_entries its_numbers its_places m)
 
   -- those of preferences and of thesauri
   abbrev defined : List Entry
   defined = preference_entries m.preferences ++ thesaurus_entries m.thesauri
 
   abbrev others : List Entry
-  others = flat_map (index_entries its_numbers m.tables) (entries m.indexes) ++ defined
+  others = flat_map (index_entries its_numbers its_places m.tables) (entries m.indexes) ++ defined
 
-  of_tables : (e : Entry) → IsIn e (flat_map table_entries (entries m.tables)) → IsIn e (all_entries its_numbers m)
+  of_tables : (e : Entry) → IsIn e (flat_map table_entries (entries m.tables)) → IsIn e (all_entries its_numbers its_places m)
   of_tables e h = in_left e (flat_map table_entries (entries m.tables)) others h
 
-  of_indexes : (e : Entry) → IsIn e (flat_map (index_entries its_numbers m.tables) (entries m.indexes)) → IsIn e (all_entries its_numbers m)
-  of_indexes e h = in_right e (flat_map table_entries (entries m.tables)) others (in_left e (flat_map (index_entries its_numbers m.tables) (entries m.indexes)) defined h)
+  of_indexes : (e : Entry) → IsIn e (flat_map (index_entries its_numbers its_places m.tables) (entries m.indexes)) → IsIn e (all_entries its_numbers its_places m)
+  of_indexes e h = in_right e (flat_map table_entries (entries m.tables)) others (in_left e (flat_map (index_entries its_numbers its_places m.tables) (entries m.indexes)) defined h)
 
-  of_preferences : (e : Entry) → IsIn e (preference_entries m.preferences) → IsIn e (all_entries its_numbers m)
-  of_preferences e h = in_right e (flat_map table_entries (entries m.tables)) others (in_right e (flat_map (index_entries its_numbers m.tables) (entries m.indexes)) defined (in_left e (preference_entries m.preferences) (thesaurus_entries m.thesauri) h))
+  of_preferences : (e : Entry) → IsIn e (preference_entries m.preferences) → IsIn e (all_entries its_numbers its_places m)
+  of_preferences e h = in_right e (flat_map table_entries (entries m.tables)) others (in_right e (flat_map (index_entries its_numbers its_places m.tables) (entries m.indexes)) defined (in_left e (preference_entries m.preferences) (thesaurus_entries m.thesauri) h))
 
-  of_thesauri : (e : Entry) → IsIn e (thesaurus_entries m.thesauri) → IsIn e (all_entries its_numbers m)
-  of_thesauri e h = in_right e (flat_map table_entries (entries m.tables)) others (in_right e (flat_map (index_entries its_numbers m.tables) (entries m.indexes)) defined (in_right e (preference_entries m.preferences) (thesaurus_entries m.thesauri) h))
+  of_thesauri : (e : Entry) → IsIn e (thesaurus_entries m.thesauri) → IsIn e (all_entries its_numbers its_places m)
+  of_thesauri e h = in_right e (flat_map table_entries (entries m.tables)) others (in_right e (flat_map (index_entries its_numbers its_places m.tables) (entries m.indexes)) defined (in_right e (preference_entries m.preferences) (thesaurus_entries m.thesauri) h))
 
   -- by the part of the key
   by_part : (kind : Kind) (o v p q : List ℕ) → p ≡ q → (at c (key kind o q) ≡ Some v → IsListed (key kind o q) v) → at c (key kind o p) ≡ Some v → IsListed (key kind o p) v
@@ -108,13 +111,13 @@ module _ (c : Content) (m : StoreState) (stands : StandsForState c m) where
   of_rows kind.Spans o p v words spans = cc
   of_rows k o p v words spans = refl
 
-  entry_listed : (e : Entry) → IsIn e (entries c) → has_code (code kind.Postings) e ≡ false → has_code (code kind.Spans) e ≡ false → IsIn e (all_entries its_numbers m)
+  entry_listed : (e : Entry) → IsIn e (entries c) → has_code (code kind.Postings) e ≡ false → has_code (code kind.Spans) e ≡ false → IsIn e (all_entries its_numbers its_places m)
   entry_listed e h words spans =
       let has = in_get nat_list_cmp_total c e h in
       let k = stands.only e.0 (subst IsSome (sym has) refl) in
       let there : at c k.0 ≡ Some e.1 = ap (get c) (sym k.1) ∙ has in
       let other = of_rows k.0.kind k.0.owner k.0.part e.1 (subst (λ (b : List ℕ). has_code (code kind.Postings) (b, e.1) ≡ false) k.1 words) (subst (λ (b : List ℕ). has_code (code kind.Spans) (b, e.1) ≡ false) k.1 spans) in
-      subst (λ (b : List ℕ). IsIn (b, e.1) (all_entries its_numbers m)) (sym k.1) (listed k.0.kind k.0.owner k.0.part e.1 other k.2.part there)
+      subst (λ (b : List ℕ). IsIn (b, e.1) (all_entries its_numbers its_places m)) (sym k.1) (listed k.0.kind k.0.owner k.0.part e.1 other k.2.part there)
 
   -- ---- the indexes that have postings
 
@@ -154,6 +157,6 @@ module _ (c : Content) (m : StoreState) (stands : StandsForState c m) where
       let whole = postings_weigh c stands.only (λ i. postings_in m.tables (get m.indexes i)) (λ i. mark_of (get m.indexes i)) (λ i. part_of (get m.indexes i)) (λ i. context_at (at c) m.tables i (get m.indexes i) (stands.indexes i))
       (map (λ e. e.0) (entries m.indexes)) (λ i. settled_of (get m.indexes i))
       (λ i r h. settled_listed (get m.indexes i) r (sym ((context_at (at c) m.tables i (get m.indexes i) (stands.indexes i)).documents.numbers.marked r) ∙ h)) named
-      (all_entries its_numbers m) entry_listed in
+      (all_entries its_numbers its_places m) entry_listed in
       let rooms = rooms_are (entries m.indexes) (λ e h. in_get nat_list_cmp_total m.indexes e h) in
-      omega (arith, whole, rooms, all_weigh its_numbers m)
+      omega (arith, whole, rooms, all_weigh its_numbers its_places (places_few (at c) m.tables m.indexes stands.indexes) m)

@@ -1,7 +1,8 @@
 -- What the function of a statement returns, against its effect; and the plan that is carried out.
-use Rattle.std.specs.Prelude.{ℕ, ◌≡◌, ◌<◌, ◌⊎◌, true, false, List, Option, Some, None, Result, Ok, Err, Vec, IfOk, [], codes, refl}
+use Rattle.std.specs.Prelude.{ℕ, ◌≡◌, ◌<◌, ◌≤◌, ◌⊎◌, true, false, List, Option, Some, None, Result, Ok, Err, Vec, IfOk, [], codes, refl}
 use Rattle.std.specs.declared.alloc.Global.{Global}
-use Rattle.ct_keep.specs.Content.{Content, after, changes_weight}
+use Rattle.std.proofs.Common.{arith}
+use Rattle.ct_keep.specs.Content.{Content, after, changes_weight, weight}
 use Rattle.ct_keep.specs.declared.keepers.KeepFault.{KeepFault}
 use Rattle.ct_keep.specs.declared.keepers.KeepFault.TheVariants.{Memory, Disk, Full as NoRoom}
 use Rattle.ct_keep.specs.KeeperViews.{AtMostOneCommit, KeeperView, SameButContent, ReadsKeeper, Goes, AnswersCommit, IsDurable, fault_of, counted, is_full}
@@ -120,7 +121,12 @@ abbrev pub IsStorePlan : Plan → Type 0
 IsStorePlan (PlanRefused fault) = Unit {0}
 IsStorePlan (PlanDone batch) = AreStoreChanges batch
 
--- A plan only takes entries away, so that what it leaves is no heavier: its batch puts nothing.
+-- What a plan makes of a content is no heavier.
+abbrev pub IsNoHeavier : Content → Plan → Type 0
+IsNoHeavier c (PlanRefused fault) = Unit {0}
+IsNoHeavier c (PlanDone batch) = weight (after batch c) ≤ weight c
+
+-- A plan only takes entries away: its batch puts nothing. Then it is so over each content.
 abbrev pub IsRemoval : Plan → Type 0
 IsRemoval (PlanRefused fault) = Unit {0}
 IsRemoval (PlanDone batch) = changes_weight batch ≡ 0
@@ -151,6 +157,9 @@ a_refusal c = refl
 
 one_line_for_all : line_for_all (codes "Table created.\n") 7 ≡ codes "Table created.\n"
 one_line_for_all = refl
+
+nothing_put : (c : Content) → IsRemoval (PlanDone []) × IsNoHeavier c (PlanDone [])
+nothing_put c = (refl, omega arith)
 
 its_content : (m : StoreState) (c : Content) → StandsBy (Some Memory) m (Refused WrongValues) c c
 its_content m c = refl

@@ -3,7 +3,7 @@ use Rattle.std.specs.Prelude.{ℕ, ◌+◌, sum_by, ◌≡◌, ◌∷◌, [], co
 use Rattle.std.specs.FinMap.{entries, from_sorted, entries-from_sorted}
 use Rattle.db_state.specs.States.{StoreState}
 pub use Rattle.tb_table.specs.Room.{key_weight, text_room, row_room, table_room}
-pub use Rattle.ix_indexes.specs.Room.{longest_resume, index_room}
+pub use Rattle.ix_indexes.specs.Room.{longest_place, index_room}
 pub use Rattle.tx_prefs.specs.Room.{preferences_room}
 pub use Rattle.th_store.specs.Room.{thesauri_room}
 use Rattle.tx_prefs.specs.Room.{no_room}

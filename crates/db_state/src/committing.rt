@@ -1,8 +1,8 @@
 //! The one commit of a statement.
 #![tactic(auto, using(ct_keep::specs::laws::Composing::reads_on, ct_keep::specs::laws::Composing::reads_short))]
 
-ghost use Rattle.std.specs.Prelude.{◌≡◌, Some, Err, IfOk};
-ghost use Rattle.ct_keep.specs.Content.{Content, after, changes_weight};
+ghost use Rattle.std.specs.Prelude.{◌≡◌, ◌≤◌, Some, Err, IfOk};
+ghost use Rattle.ct_keep.specs.Content.{Content, after, weight};
 ghost use Rattle.ct_keep.specs.KeeperViews.{AtMostOneCommit, SameButContent, Told, counted, fault_of, is_full};
 ghost use Rattle.db_state.specs.Plans.{CommitGives, Returns, line_for_all};
 ghost use Rattle.db_state.specs.Shapes.{AcceptsStatements, AreStoreChanges};
@@ -30,7 +30,7 @@ pub(crate) fn commit<K: Keeper>(
     ensures kept { SameButContent (K.view keeper.old) (K.view keeper.new) (fault_of result) }
     ensures fulls { (K.view keeper.new).counts.fulls ≡ counted (is_full (fault_of result)) (K.view keeper.old).counts.fulls }
     ensures once { AtMostOneCommit (K.view keeper.old) (K.view keeper.new) }
-    ensures light { changes_weight batch ≡ 0 → Told K.view keeper.old (λ m. result ≡ Err KeepFault.Full → ⊥) }
+    ensures light { Told K.view keeper.old (λ m. weight (after batch m) ≤ weight m → result ≡ Err KeepFault.Full → ⊥) }
     ensures gives { CommitGives batch reply.items (K.view keeper.old) (K.view keeper.new) result }
     ensures tells { Returns (line_for_all reply.items) (K.view keeper.old) (K.view keeper.new) result }
 {

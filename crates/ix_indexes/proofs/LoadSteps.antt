@@ -18,12 +18,13 @@ use Rattle.db_names.specs.declared.heads.IndexKind.TheVariants.{Context, Catalog
 use Rattle.db_names.specs.declared.heads.IndexHead.{IndexHead}
 use Rattle.ix_kinds.specs.Rows.{table_at}
 use Rattle.ix_kinds.specs.Indextypes.{IndexOf, with_body}
-use Rattle.ix_kinds.specs.Statements.{heads, head_of_index}
+use Rattle.ix_kinds.specs.Standing.{no_place}
+use Rattle.ix_kinds.specs.Statements.{head_of_index}
 use Rattle.ix_kinds.specs.laws.Telling.{head_found}
 use Rattle.ix_context.specs.laws.Reading.{column_few}
 use Rattle.cat_index.specs.declared.catalogues.Catalogue.{Catalogue as HeldCatalogue}
 use Rattle.cat_index.specs.Catalogues.{CatalogueBody, places_in}
-use Rattle.cat_index.specs.Kind.{as_index, catalogue}
+use Rattle.cat_index.specs.Kind.{as_index}
 use Rattle.cat_index.specs.Spelling.{SpellsCatalogue, IsSpellable, catalogue_bytes}
 use Rattle.cat_index.specs.laws.Kind.{SameParts, entry_is, parts_one}
 use Rattle.cat_index.specs.laws.Well.{entry_of, spellable}
@@ -31,7 +32,7 @@ use Rattle.ix_indexes.specs.declared.loading.TableIndex.{TableIndex}
 use Rattle.ix_indexes.specs.Indexes.{Defined, Index, StandsUnder, kinds, as_catalogue}
 use Rattle.ix_indexes.specs.Noting.{CanTell, AllCanTell, HoldsIndexes, InContext, InCatalogue, InRules, Noted, noted_at, noted_index, noted_indexes, noted_named}
 use Rattle.ix_indexes.specs.Loading.{IsHeadOf, noted_or_none}
-use Rattle.ix_indexes.specs.laws.Indexes.{entry_at, is_catalogue, is_context, is_rules, catalogue_is, kinds_laws}
+use Rattle.ix_indexes.specs.laws.Indexes.{catalogue_spelt, is_catalogue, is_context, is_rules, catalogue_is, kinds_laws}
 
 -- ---- the loop
 
@@ -98,7 +99,7 @@ module _ (m : Content) (ts : Tables) (xs : Names Index) (hold : HoldsIndexes m t
       spellable x (table_at ts x.table) (hold.hold.tables.names x.table is.target.table is.target.there) (omega (arith, few)) is.prefs (catalogue_is ts x is)
 
   its_entry : at m (key kind.Indexes i []) ≡ Some (catalogue_bytes (entry_of x))
-  its_entry = entry_at (at m) ts i (Some (as_catalogue x)) (subst (λ o. StandsUnder (at m) ts i o) here (hold.hold.stand i)) ∙ ap Some (sym (entry_is Defined x))
+  its_entry = let stand : StandsUnder (at m) ts i (Some (as_catalogue x)) = subst (λ o. StandsUnder (at m) ts i o) here (hold.hold.stand i) in catalogue_spelt (at m) i x stand.entry
 
   -- an entry that spells no catalogue isn't its
   pub no_catalogue : SpellsCatalogue (at m (key kind.Indexes i [])) None → ⊥
@@ -108,7 +109,7 @@ module _ (m : Content) (ts : Tables) (xs : Names Index) (hold : HoldsIndexes m t
     parts : SameParts x (as_index [] y)
     parts =
         let is = hold.hold.rules.each i (as_catalogue x) here in
-        parts_one Defined x (as_index [] y) is.prefs spells.0.prefs
+        parts_one Defined x (as_index [] y) no_place no_place is.prefs spells.0.prefs
         (sym (entry_is Defined x) ∙ same_Some _ _ (sym its_entry ∙ spells.1) ∙ entry_is Defined (as_index [] y))
 
     -- its sub-indexes are within the limits

@@ -1,5 +1,5 @@
 -- Shapes of entries of indexes.
-use Rattle.std.proofs.Common.{◌↔◌, ◌⊎◌, ⊎_elim, inr, List, ℕ, Bool, true, false, refl, sym, ◌≡◌, Result, Ok, Err}
+use Rattle.std.proofs.Common.{◌↔◌, ⊎_elim, inr, List, ℕ, Bool, true, false, refl, sym, ◌≡◌, Result, Ok, Err}
 use Rattle.std.specs.Prelude.{IfOk, IsTrue}
 use Rattle.std.proofs.lemmas.Bool.{false≢true}
 use Rattle.ct_base.specs.declared.faults.Memory.{Memory}

@@ -1,4 +1,5 @@
 pub mod Noting
+pub mod Untidies
 pub mod Indexes
 pub mod Removing
 pub mod Held

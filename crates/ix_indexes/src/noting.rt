@@ -1,34 +1,24 @@
 //! What a statement tells the indexes on a table of a row.
 #![tactic(auto, using(ct_keep::specs::laws::Composing::reads_on, ct_keep::specs::laws::Composing::reads_short))]
 
-ghost use Rattle.std.specs.Prelude.{◌≡◌, ◌≤◌, ℕ, List, [], Option, IfOk, OnOk, Err, length, true, false};
+ghost use Rattle.std.specs.Prelude.{◌≡◌, ◌≤◌, [], IfOk, OnOk, Err, length, true, false};
 ghost use Rattle.std.specs.List.{list_all};
 ghost use Rattle.ct_base.specs.Limits.{sub_index_limit};
 ghost use Rattle.ct_keep.specs.KeeperViews.{Finds, OnlyReads, ReadsKeeper, Told};
 ghost use Rattle.ct_keep.specs.Looks.{LooksAtMost, no_looks};
-ghost use Rattle.ct_entry.specs.Keys.{Key, at};
-ghost use Rattle.ct_entry.specs.Changes.{spell};
+ghost use Rattle.ct_entry.specs.Keys.{at};
 ghost use Rattle.ct_entry.specs.Removals.{OnlyRemoves};
 ghost use Rattle.ct_entry.specs.Shapes.{AreShaped};
-ghost use Rattle.tb_table.specs.Tables.{text_in_column};
 ghost use Rattle.tx_settings.specs.Attributes.{can_be_set};
-ghost use Rattle.ix_docmap.specs.Readings.{document_at};
-ghost use Rattle.ix_kinds.specs.Rows.{RowChange};
-ghost use Rattle.ix_context.specs.Changes.{Adds};
-ghost use Rattle.ix_context.specs.Contexts.{context_changes};
 ghost use Rattle.ix_context.specs.Faults.{context_fault_of};
 ghost use Rattle.ix_context.specs.Shapes.{HasContextValue, KeepsShape};
-ghost use Rattle.cat_index.specs.Filings.{IsShortOrNone, fit_sub_index};
-ghost use Rattle.cat_index.specs.Catalogues.{filing_at};
-ghost use Rattle.cat_index.specs.Changes.{filing_changes, set_changes};
+ghost use Rattle.cat_index.specs.Filings.{fit_sub_index};
+ghost use Rattle.cat_index.specs.Catalogues.{filing};
 ghost use Rattle.cat_index.specs.Shapes.{HasCatalogueValue, IsFiling};
-ghost use Rattle.rule_index.specs.Changes.{Adds as AddsRules, rule_changes};
 ghost use Rattle.rule_index.specs.Matching.{rule_looks};
 ghost use Rattle.rule_index.specs.Sees.{ToldRules};
 ghost use Rattle.rule_index.specs.Shapes.{HasRuleValue, KeepsShape as KeepsRuleShape};
-ghost use Rattle.rule_index.specs.Spelling.{anchors_at};
-ghost use Rattle.ix_indexes.specs.declared.loading.Noting.TheVariants.{InCatalogue as HeldCatalogue};
-ghost use Rattle.ix_indexes.specs.Noting.{AllCanTell, AllDrop, AreHeld, CanTell, IsGoing, IsHeld, IsToldBy, all_noted_changes, any_needs_values, needs_values as needs_its_values, noted_by, noted_changes, noted_index, noted_indexes, noted_looks_up, rules_read};
+ghost use Rattle.ix_indexes.specs.Noting.{AddsNotes, AllCanTell, AreNotes, CanTell, DropsGoing, FilesAnew, FilesRow, IsGoing, IsShortIn, NotesIndex, NotesIndexes, any_needs_values, catalogue_by, changes_in_catalogue, changes_in_context, needs_values as needs_its_values, noted_by, noted_indexes, noted_looks_up, changes_in_rules, rules_read};
 ghost use Rattle.ix_indexes.specs.Shapes.{HasIndexValue};
 
 use crate::loading::{Noting, TableIndex};
@@ -60,7 +50,7 @@ fn note_in_context<K: Keeper>(
     event: RowEvent<'_>,
 ) -> Result<(), ContextFault>
     requires { (K.view keeper.old).ready }
-    ensures changes { Told K.view keeper.old (λ m. (c : RowChange) → IsToldBy event.entry false row.0 c → Adds batch.old batch.new result (context_changes index.now c.row c.old c.new (document_at (at m) index.now c.row))) }
+    ensures changes { Told K.view keeper.old (λ m. AddsNotes event.entry row.0 batch.old batch.new result (changes_in_context (at m) index.now)) }
     ensures never_too_many { result ≡ Err ContextFault.TooMany → ⊥ }
     ensures shaped { KeepsShape batch.old batch.new result }
     ensures reads { ReadsKeeper (K.view keeper.old) (K.view keeper.new) (context_fault_of result) }
@@ -84,7 +74,7 @@ fn context_notes<K: Keeper>(
     event: RowEvent<'_>,
 ) -> Result<Batch, KeepFault>
     requires { (K.view keeper.old).ready }
-    ensures changes { Finds K.view keeper.old result (λ m notes. (c : RowChange) → IsToldBy event.entry false row.0 c → notes ≡ spell (context_changes index.now c.row c.old c.new (document_at (at m) index.now c.row))) }
+    ensures changes { Finds K.view keeper.old result (λ m. AreNotes event.entry false row.0 (changes_in_context (at m) index.now)) }
     ensures shaped { IfOk result (AreShaped HasContextValue) }
     ensures reads { OnlyReads K.view keeper.old keeper.new result }
     ensures at_most { LooksAtMost K.view keeper.old keeper.new no_looks }
@@ -108,7 +98,7 @@ fn note_in_rules<K: Keeper>(
     event: RowEvent<'_>,
 ) -> Result<(), KeepFault>
     requires { (K.view keeper.old).ready }
-    ensures changes { ToldRules K.view keeper.old index.now (λ m t x. (c : RowChange) → IsToldBy event.entry false row.0 c → AddsRules batch.old batch.new result (rule_changes index.now c.row c.old c.new (anchors_at (at m) index.now c.row))) }
+    ensures changes { ToldRules K.view keeper.old index.now (λ m t x. AddsNotes event.entry row.0 batch.old batch.new result (changes_in_rules (at m) index.now)) }
     ensures removes { IsGoing event.entry → OnOk result (OnlyRemoves batch.old batch.new) }
     ensures shaped { KeepsRuleShape batch.old batch.new result }
     ensures reads { OnlyReads K.view keeper.old keeper.new result }
@@ -133,7 +123,7 @@ fn rule_notes<K: Keeper>(
     event: RowEvent<'_>,
 ) -> Result<Batch, KeepFault>
     requires { (K.view keeper.old).ready }
-    ensures changes { ToldRules K.view keeper.old index.now (λ m t x. (c : RowChange) → IsToldBy event.entry false row.0 c → IfOk result (λ notes. notes ≡ spell (rule_changes index.now c.row c.old c.new (anchors_at (at m) index.now c.row)))) }
+    ensures changes { ToldRules K.view keeper.old index.now (λ m t x. IfOk result (AreNotes event.entry false row.0 (changes_in_rules (at m) index.now))) }
     ensures removes { IsGoing event.entry → IfOk result (OnlyRemoves []) }
     ensures shaped { IfOk result (AreShaped HasRuleValue) }
     ensures reads { OnlyReads K.view keeper.old keeper.new result }
@@ -155,7 +145,7 @@ fn filing_of(
     requires set { can_be_set catalogue.now.prefs.lexer ≡ true }
     requires few { length places.now ≤ sub_index_limit }
     requires each { list_all fit_sub_index places.now ≡ true }
-    ensures filing { IsShortOrNone (text_in_column values.now catalogue.now.target.column) → IfOk result (λ w. w ≡ filing_at catalogue.now.prefs catalogue.now.target.column places.now row.0 values.now) }
+    ensures filing { IsShortIn catalogue.now values.now → IfOk result (λ w. w ≡ filing (catalogue_by catalogue.now places.now) row.0 values.now) }
     ensures fits { IfOk result IsFiling }
 {
     row_filing(
@@ -181,7 +171,7 @@ fn filed_notes(
     requires set { can_be_set catalogue.now.prefs.lexer ≡ true }
     requires few { length places.now ≤ sub_index_limit }
     requires each { list_all fit_sub_index places.now ≡ true }
-    ensures changes { IsShortOrNone (text_in_column values.now catalogue.now.target.column) → IfOk result (λ notes. notes ≡ spell (filing_changes index.now row.0 (filing_at catalogue.now.prefs catalogue.now.target.column places.now row.0 values.now) there)) }
+    ensures changes { IsShortIn catalogue.now values.now → IfOk result (FilesRow index.now (catalogue_by catalogue.now places.now) row.0 values.now there) }
     ensures shaped { IfOk result (AreShaped HasCatalogueValue) }
 {
     let filing = filing_of(alloc, catalogue, places, row, values)?;
@@ -207,7 +197,7 @@ fn set_notes(
     requires set { can_be_set catalogue.now.prefs.lexer ≡ true }
     requires few { length places.now ≤ sub_index_limit }
     requires each { list_all fit_sub_index places.now ≡ true }
-    ensures changes { IsShortOrNone (text_in_column old.now catalogue.now.target.column) → IsShortOrNone (text_in_column new.now catalogue.now.target.column) → IfOk result (λ notes. notes ≡ spell (set_changes index.now row.0 (filing_at catalogue.now.prefs catalogue.now.target.column places.now row.0 old.now) (filing_at catalogue.now.prefs catalogue.now.target.column places.now row.0 new.now))) }
+    ensures changes { IsShortIn catalogue.now old.now → IsShortIn catalogue.now new.now → IfOk result (FilesAnew index.now (catalogue_by catalogue.now places.now) row.0 old.now new.now) }
     ensures shaped { IfOk result (AreShaped HasCatalogueValue) }
 {
     let before = filing_of(alloc, catalogue, places, row, old)?;
@@ -229,7 +219,7 @@ fn catalogue_notes(
     requires set { can_be_set catalogue.now.prefs.lexer ≡ true }
     requires few { length places.now ≤ sub_index_limit }
     requires each { list_all fit_sub_index places.now ≡ true }
-    ensures changes { (f : Key → Option (List ℕ)) (c : RowChange) → IsToldBy event.entry true row.0 c → IfOk result (λ notes. notes ≡ spell (noted_changes f c index.now (noted_by (HeldCatalogue catalogue.now places.now)))) }
+    ensures changes { IfOk result (AreNotes event.entry true row.0 (changes_in_catalogue index.now (catalogue_by catalogue.now places.now))) }
     ensures shaped { IfOk result (AreShaped HasCatalogueValue) }
 {
     match event {
@@ -249,8 +239,8 @@ fn index_notes<K: Keeper>(
 ) -> Result<Batch, KeepFault>
     requires ready { (K.view keeper.old).ready }
     requires can { CanTell index.now }
-    ensures changes { Finds K.view keeper.old result (λ m notes. IsHeld m (noted_index index.now) → (c : RowChange) → IsToldBy event.entry (needs_its_values (noted_by index.now.noting)) row.0 c → notes ≡ spell (noted_changes (at m) c index.now.name (noted_by index.now.noting))) }
-    ensures drops { Finds K.view keeper.old result (λ m notes. IsGoing event.entry → (c : RowChange) → IsToldBy event.entry (needs_its_values (noted_by index.now.noting)) row.0 c → AllDrop notes) }
+    ensures changes { Finds K.view keeper.old result (λ m. NotesIndex m index.now event.entry row.0) }
+    ensures drops { Finds K.view keeper.old result (λ m. DropsGoing (needs_its_values (noted_by index.now.noting)) event.entry row.0) }
     ensures shaped { IfOk result (AreShaped HasIndexValue) }
     ensures reads { OnlyReads K.view keeper.old keeper.new result }
     ensures at_most { LooksAtMost K.view keeper.old keeper.new (rule_looks (rules_read (noted_by index.now.noting))) }
@@ -281,8 +271,8 @@ pub fn row_notes<K: Keeper>(
 ) -> Result<Batch, KeepFault>
     requires ready { (K.view keeper.old).ready }
     requires can { AllCanTell indexes.now }
-    ensures changes { Finds K.view keeper.old result (λ m notes. AreHeld m (noted_indexes indexes.now) → (c : RowChange) → IsToldBy event.entry (any_needs_values indexes.now) row.0 c → notes ≡ spell (all_noted_changes (at m) c (noted_indexes indexes.now))) }
-    ensures drops { Finds K.view keeper.old result (λ m notes. IsGoing event.entry → (c : RowChange) → IsToldBy event.entry (any_needs_values indexes.now) row.0 c → AllDrop notes) }
+    ensures changes { Finds K.view keeper.old result (λ m. NotesIndexes m indexes.now event.entry row.0) }
+    ensures drops { Finds K.view keeper.old result (λ m. DropsGoing (any_needs_values indexes.now) event.entry row.0) }
     ensures shaped { IfOk result (AreShaped HasIndexValue) }
     ensures reads { OnlyReads K.view keeper.old keeper.new result }
     ensures at_most { LooksAtMost K.view keeper.old keeper.new (noted_looks_up (noted_indexes indexes.now)) }

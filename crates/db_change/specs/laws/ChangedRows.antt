@@ -26,11 +26,13 @@ use Rattle.tb_table.specs.laws.Updates.{stand_update}
 use Rattle.tb_table.specs.laws.Rules.{update_keeps}
 use Rattle.tb_table.specs.laws.Well.{are_insert}
 use Rattle.ix_kinds.specs.Rows.{RowChange, table_at, value_of_row}
-use Rattle.ix_kinds.specs.Statements.{tables_after, looks_at_any, AreIndexesOn, indexes_after, row_changes_at}
+use Rattle.ix_kinds.specs.Indextypes.{untidied_index}
+use Rattle.ix_kinds.specs.Standing.{is_entry}
+use Rattle.ix_kinds.specs.Statements.{tables_after, looks_at_any, AreIndexesOn, indexes_after, row_changes_at, untidying_for}
 use Rattle.ix_kinds.specs.IndextypeLaws.{by_row}
 use Rattle.ix_kinds.specs.RowSteps.{HaveSameColumns, DifferInRow, SetsColumns, AwaitsTurn, IsStep, AreSteps, IndexesHold}
 use Rattle.ix_kinds.specs.laws.Tables.{and_false, differs, row_now as row_after, set_looks_alike, HasStill, has_still}
-use Rattle.ix_kinds.specs.laws.Turns.{row_is_row, rows_in_turn}
+use Rattle.ix_kinds.specs.laws.Turns.{apart_test, lost_in_turn, row_is_row}
 use Rattle.ix_indexes.specs.Indexes.{Index, kinds, IndexesStand}
 use Rattle.ix_indexes.specs.Noting.{Noted, all_noted_changes, noted_named}
 use Rattle.ix_indexes.specs.laws.Indexes.{kinds_laws}
@@ -45,7 +47,8 @@ use Rattle.th_store.specs.laws.Changes.{thesauri_unchanged}
 use Rattle.db_state.specs.States.{StoreState, StandsForState, HasShortRows, is_of_rows, is_view, index_limit}
 use Rattle.db_state.specs.laws.Kinds.{tables_no_noted}
 use Rattle.db_state.specs.laws.ShortRows.{rows_frame}
-use Rattle.db_change.specs.Updating.{changing, updated_values, places_set, row_updated, with_updates, numbers_after, texts_set, value_changes, update_changes}
+use Rattle.db_change.specs.Updating.{all_update_changes, changing, updated_values, places_set, row_updated, with_updates, numbers_after, texts_set, value_changes, update_changes}
+use Rattle.db_change.specs.laws.LostRows.{lost_are, lost_is, lost_of, lost_tables}
 use Rattle.db_change.specs.laws.NewRows.{indexes_hold}
 use Rattle.db_change.specs.laws.NewTables.{apart}
 use Rattle.std.proofs.lemmas.Bool.{or_right}
@@ -54,15 +57,18 @@ use Rattle.ix_context.specs.laws.ContextRows.{all_weaker}
 
 -- ---- the kinds of the changes
 
--- the kinds of tables, and of what indexes are told
+-- the own entries of indexes, the kinds of tables, and of what indexes are told
 abbrev is_of_update : Kind → Bool
-is_of_update k = is_of_tables k || is_noted k
+is_of_update k = is_entry k || (is_of_tables k || is_noted k)
+
+of_entries : (k : Kind) → is_entry k ≡ true → is_of_update k ≡ true
+of_entries k h = ap (λ (b : Bool). b || (is_of_tables k || is_noted k)) h
 
 of_tables : (k : Kind) → is_of_tables k ≡ true → is_of_update k ≡ true
-of_tables k h = ap (λ (b : Bool). b || is_noted k) h
+of_tables k h = or_right (is_entry k) (is_of_tables k || is_noted k) (ap (λ (b : Bool). b || is_noted k) h)
 
 of_noted : (k : Kind) → is_noted k ≡ true → is_of_update k ≡ true
-of_noted k h = or_right (is_of_tables k) (is_noted k) h
+of_noted k h = or_right (is_entry k) (is_of_tables k || is_noted k) (or_right (is_of_tables k) (is_noted k) h)
 
 update_rows : (k : Kind) → is_of_rows k ≡ true → is_of_update k ≡ false
 update_rows kind.Postings h = refl
@@ -183,13 +189,6 @@ module _ (c : Content) (m : StoreState) (t : List ℕ) (x : Table) (assigns : Li
 
   -- ---- the tables, row by row
 
-  other_row : (r s : ℤ) (rows : List ℤ) → (IsIn r rows → ⊥) → IsIn s rows → int_eq s r ≡ false
-  other_row r s rows apart among = go (int_eq s r) refl
-    where
-      go : (b : Bool) → int_eq s r ≡ b → b ≡ false
-      go true e = absurd (apart (subst (λ (z : ℤ). IsIn z rows) (int_from_eq s r e) among))
-      go false e = refl
-
   tables_stand : (rows : List ℤ) → AreApart rows → ((r : ℤ) → IsIn r rows → is_some (row_at m.tables t r) ≡ true)
       → (f : Key → Option (List ℕ)) (ts : Tables) → AreTables ts → HaveSameColumns m.tables ts
       → ((r : ℤ) → IsIn r rows → row_at ts t r ≡ row_at m.tables t r) → TablesStand f ts → TablesStand (view (each (λ r. own r ++ notes r) rows) f) (tables_after step ts rows)
@@ -201,7 +200,7 @@ module _ (c : Content) (m : StoreState) (t : List ℕ) (x : Table) (assigns : Li
       let row = row_is_row m.tables stands.state.tables t r (there r (inl refl)) in
       subst (λ (g : Key → Option (List ℕ)). TablesStand g (tables_after step (step ts r) rows)) (sym (view-append (own r ++ notes r) (each (λ r. own r ++ notes r) rows) f))
       (tables_stand rows distinct.1 (λ s later. there s (inr later)) (view (own r ++ notes r) f) (step ts r) next.rules (λ q. next.differ.alike q ∙ alike q)
-      (λ s later. next.differ.others t s (and_false (same_list t t) (int_eq s r) (other_row r s rows distinct.0 later)) ∙ same s (inr later))
+      (λ s later. next.differ.others t s (and_false (same_list t t) (int_eq s r) (apart_test r s rows distinct.0 later)) ∙ same s (inr later))
       (stands_then ts r at_turn f row stand))
 
   -- ---- the changes
@@ -247,38 +246,59 @@ module _ (c : Content) (m : StoreState) (t : List ℕ) (x : Table) (assigns : Li
   -- ---- the state
 
   module _ (rows : List ℤ) (distinct : AreApart rows) (there : (r : ℤ) → IsIn r rows → is_some (row_at m.tables t r) ≡ true) where
-    as_told : each (λ r. own r ++ kind_notes r) rows ≡ update_changes c m t columns assigns es rows
-    as_told = λ j. each (λ r. own r ++ kind_notes_are r j) rows
+    -- what is put first, and for the rows
+    abbrev first : List (Key × Option (List ℕ))
+    first = untidying_for kinds (at c) m.indexes names rows
+
+    abbrev later : List (Key × Option (List ℕ))
+    later = update_changes c m t columns assigns es rows
+
+    as_told : first ++ each (λ r. own r ++ kind_notes r) rows ≡ first ++ later
+    as_told = λ j. first ++ each (λ r. own r ++ kind_notes_are r j) rows
 
     -- a row leaves to an index at which columns it looks
     stays : (d : RowChange) (n : ℕ) (y : Index) → looks_at_any kinds places (by_row kinds d n y) ≡ looks_at_any kinds places y
     stays d n y = λ j. list_any (λ (column : ℕ). (kinds_laws.rows.same d n y).looks column j) places
 
-    hold : IndexesHold kinds (view (update_changes c m t columns assigns es rows) (at c)) (tables_after step m.tables rows) (indexes_after kinds (looks_at_any kinds places) step m.tables t rows m.indexes)
+    -- and an index looks at the same once it isn't tidy
+    stays_untidy : (y : Index) → looks_at_any kinds places (untidied_index kinds y) ≡ looks_at_any kinds places y
+    stays_untidy y = λ j. list_any (λ (column : ℕ). (kinds_laws.untidies.same y).looks column j) places
+
+    hold : IndexesHold kinds (view (first ++ later) (at c)) (tables_after step m.tables rows) (indexes_after kinds (looks_at_any kinds places) step m.tables t rows m.indexes)
     hold =
         subst (λ (ws : List (Key × Option (List ℕ))). IndexesHold kinds (view ws (at c)) (tables_after step m.tables rows) (indexes_after kinds (looks_at_any kinds places) step m.tables t rows m.indexes)) as_told
-        (rows_in_turn kinds kinds_laws (looks_at_any kinds places) stays t names (at c) m.indexes m.tables step change (λ r. refl) is_of_tables own
+        (lost_in_turn kinds kinds_laws (looks_at_any kinds places) stays t names (at c) m.indexes m.tables step change (λ r. refl) is_of_tables own
         (λ r. all_insert t r (numbers_after columns assigns (numbers_of (row_values m.tables t r))) (texts_set 1 columns assigns)) apart
-        rows (are_steps rows there) distinct (λ r among. row_is_row m.tables stands.state.tables t r (there r among)) on (indexes_hold c m stands))
+        rows stays_untidy there (are_steps rows there) distinct (λ r among. row_is_row m.tables stands.state.tables t r (there r among)) on (indexes_hold c m stands))
 
     views_stay : (q : List ℕ) (y : Table) → get (tables_after step m.tables rows) q ≡ Some y → is_view q ≡ false
     views_stay q y is =
         let was = option_map_some (λ (z : Table). z.columns) (get m.tables q) y.columns (sym (alike_after t x.columns assigns rows m.tables q) ∙ ap (option_map (λ (z : Table). z.columns)) is) in
         stands.state.views q was.0 was.1
 
-    pub changed_rows_stand : StandsForState (after (spell (update_changes c m t columns assigns es rows)) c) (with_updates m t x.columns assigns rows)
+    all : AllOf is_of_update (first ++ later)
+    all = all-append is_of_update first later (all_weaker is_entry is_of_update of_entries first (lost_of c m names rows)) (updates_kinds rows)
+
+    are : AreChanges (first ++ later)
+    are = are-append first later (lost_are c m names stands rows) (updates_are rows there)
+
+    tables_stood : TablesStand (view (first ++ later) (at c)) (tables_after step m.tables rows)
+    tables_stood =
+        subst (λ (f : Key → Option (List ℕ)). TablesStand f (tables_after step m.tables rows)) (sym (view-append first later (at c)))
+        (tables_stand rows distinct there (view first (at c)) m.tables stands.state.tables (λ q. refl) (λ r among. refl) (lost_tables c m names stands rows))
+
+    pub changed_rows_stand : StandsForState (after (spell (all_update_changes c m t columns assigns es rows)) c) (with_updates m t x.columns assigns rows)
     changed_rows_stand =
-        let ws = update_changes c m t columns assigns es rows in
+        let ws = first ++ later in
         let us = tables_after step m.tables rows in
         let ys = indexes_after kinds (looks_at_any kinds places) step m.tables t rows m.indexes in
-        record {
-          only = only-after ws c stands.only (updates_are rows there);
-          tables = subst (λ (f : Key → Option (List ℕ)). TablesStand f us) (sym (at_view ws c))
-              (tables_stand rows distinct there (at c) m.tables stands.state.tables (λ q. refl) (λ r among. refl) stands.tables);
+        subst (λ (ws : List (Key × Option (List ℕ))). StandsForState (after (spell (ws ++ later)) c) (with_updates m t x.columns assigns rows)) (lost_is c m names rows) (record {
+          only = only-after ws c stands.only are;
+          tables = subst (λ (f : Key → Option (List ℕ)). TablesStand f us) (sym (at_view ws c)) tables_stood;
           indexes = subst (λ (f : Key → Option (List ℕ)). IndexesStand f us ys) (sym (at_view ws c)) hold.stand;
-          preferences = subst (λ (f : Key → Option (List ℕ)). PreferencesStand f m.preferences) (sym (at_view ws c)) (preferences_frame is_of_update ws (at c) m.preferences (updates_kinds rows) (other_kinds is_of_update refl refl refl refl) stands.preferences);
-          thesauri = thesauri_unchanged is_of_update ws c m.thesauri (updates_kinds rows) refl refl stands.thesauri;
-          short_rows = subst HasShortRows (sym (at_view ws c)) (rows_frame is_of_update ws (at c) (updates_kinds rows) update_rows stands.short_rows);
+          preferences = subst (λ (f : Key → Option (List ℕ)). PreferencesStand f m.preferences) (sym (at_view ws c)) (preferences_frame is_of_update ws (at c) m.preferences all (other_kinds is_of_update refl refl refl refl) stands.preferences);
+          thesauri = thesauri_unchanged is_of_update ws c m.thesauri all refl refl stands.thesauri;
+          short_rows = subst HasShortRows (sym (at_view ws c)) (rows_frame is_of_update ws (at c) all update_rows stands.short_rows);
           state = record {
             tables = hold.tables;
             indexes = hold.rules;
@@ -287,4 +307,4 @@ module _ (c : Content) (m : StoreState) (t : List ℕ) (x : Table) (assigns : Li
             preferences = stands.state.preferences;
             thesauri = stands.state.thesauri;
           };
-        }
+        })

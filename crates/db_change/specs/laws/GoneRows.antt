@@ -1,12 +1,14 @@
 -- The state after rows went.
 use Rattle.std.proofs.Common.{◌≡◌, ℕ, ℤ, ◌+◌, ◌≤◌, Bool, true, false, cond, List, [], ◌∷◌, ◌++◌, Option, Some, None, refl, sym, ap, subst, ◌∙◌, inl, inr, arith}
-use Rattle.std.specs.Prelude.{is_some, ◌&&◌}
+use Rattle.std.specs.Prelude.{is_some, ◌&&◌, ◌||◌}
 use Rattle.std.specs.Option.{option_map}
 use Rattle.std.specs.Ordering.{int_eq, nat_cmp, eq_by_cmp}
 use Rattle.std.specs.Cmp.Lexicographic.{slice_cmp}
 use Rattle.std.specs.FinMap.{get, remove, get-remove}
+use Rattle.std.proofs.lemmas.Bool.{or_right}
 use Rattle.std.proofs.lemmas.Cmp.{nat_list_cmp_total}
 use Rattle.ct_keep.specs.Content.{Content, set_to, after, changes_weight, value_weight}
+use Rattle.ct_keep.specs.laws.Content.{after-append}
 use Rattle.ct_entry.specs.declared.kinds.Kind.{Kind}
 use Rattle.ct_entry.specs.declared.kinds.Kind.TheVariants as kind
 use Rattle.ct_entry.specs.Keys.{Key, HasKeysOnly, IsRow, at, bytes, same_list}
@@ -15,7 +17,7 @@ use Rattle.ct_entry.specs.Lists.{IsIn, AreApart}
 use Rattle.ct_entry.specs.Each.{each}
 use Rattle.ct_entry.specs.laws.Each.{all_each}
 use Rattle.ct_entry.specs.Changes.{spell, view, AllOf}
-use Rattle.ct_entry.specs.laws.Changes.{at_view, view-append, all-append}
+use Rattle.ct_entry.specs.laws.Changes.{at_view, only-after, spell-append, view-append, all-append}
 use Rattle.tb_table.specs.declared.columns.Column.{Column}
 use Rattle.tb_table.specs.Tables.{Table, Tables, row_at, without_row}
 use Rattle.tb_table.specs.Spelling.{TablesStand, text_places, drop_texts, delete_changes}
@@ -24,10 +26,11 @@ use Rattle.tb_table.specs.laws.Changes.{is_of_tables, tables_frame}
 use Rattle.tb_table.specs.laws.Removals.{get-without_row, row_at-without_row, columns-without_row, all_delete, stand_delete}
 use Rattle.tb_table.specs.laws.Rules.{delete_keeps}
 use Rattle.ix_kinds.specs.Rows.{table_at, RowChange}
-use Rattle.ix_kinds.specs.Statements.{tables_after, every, indexes_after, row_changes_at}
+use Rattle.ix_kinds.specs.Standing.{is_entry}
+use Rattle.ix_kinds.specs.Statements.{tables_after, every, indexes_after, row_changes_at, untidying_for}
 use Rattle.ix_kinds.specs.RowSteps.{AreSteps, IndexesHold}
 use Rattle.ix_kinds.specs.laws.Tables.{differs, row_now}
-use Rattle.ix_kinds.specs.laws.Turns.{row_is_row, rows_in_turn}
+use Rattle.ix_kinds.specs.laws.Turns.{lost_in_turn, row_is_row}
 use Rattle.ix_indexes.specs.Indexes.{kinds, IndexesStand}
 use Rattle.ix_indexes.specs.Noting.{AllDrop, Noted, all_noted_changes}
 use Rattle.tx_prefs.specs.Spelling.{PreferencesStand}
@@ -37,8 +40,9 @@ use Rattle.db_state.specs.laws.ShortRows.{rows_frame}
 use Rattle.db_state.specs.laws.Kinds.{tables_no_noted}
 use Rattle.db_state.specs.States.{StoreState, StandsForState, HasShortRows, is_of_rows, is_view, index_limit}
 use Rattle.db_change.specs.Noting.{names_on, noted_on}
-use Rattle.db_change.specs.Deleting.{going, gone_row_changes, gone_rows_changes, without_rows}
+use Rattle.db_change.specs.Deleting.{all_gone_changes, going, gone_row_changes, gone_rows_changes, without_rows}
 use Rattle.db_change.specs.laws.IndexCounts.{few_after}
+use Rattle.db_change.specs.laws.LostRows.{lost_are, lost_is, lost_of, lost_tables}
 use Rattle.db_change.specs.laws.NewRows.{indexes_hold, names_on_table}
 use Rattle.db_change.specs.laws.NewTables.{apart}
 use Rattle.ix_context.specs.laws.ContextRows.{all_weaker}
@@ -116,18 +120,6 @@ all_rows f ts t columns es rows =
     all-append is_of_row (delete_changes t columns r) (all_noted_changes f c es) (refl, all_texts t r (text_places columns)) (all_weaker is_noted is_of_row noted_of_row (all_noted_changes f c es) (notes_of f c es)))
     rows
 
-row_rows : (k : Kind) → is_of_rows k ≡ true → is_of_row k ≡ false
-row_rows kind.RowNumbers h = cc
-row_rows kind.RowTexts h = cc
-row_rows kind.DocumentRows h = cc
-row_rows kind.RowDocuments h = cc
-row_rows kind.Pending h = cc
-row_rows kind.Catalogue h = cc
-row_rows kind.Rules h = cc
-row_rows kind.Anchors h = cc
-row_rows kind.RuleFaults h = cc
-row_rows k h = refl
-
 -- ---- the tables
 
 abbrev lose_row : List ℕ → Tables → ℤ → Tables
@@ -185,40 +177,85 @@ loses_each m t rows ts r among awaits = record {
 
 -- ---- the state
 
--- after these rows of a table went, each of which is there once
-pub gone_rows_stand : (c : Content) (m : StoreState) (t : List ℕ) (x : Table) (rows : List ℤ) → StandsForState c m → get m.tables t ≡ Some x
-    → AreApart rows → ((r : ℤ) → IsIn r rows → is_some (row_at m.tables t r) ≡ true)
-    → StandsForState (after (spell (gone_rows_changes (at c) m.tables t x.columns (noted_on m.indexes t) rows)) c) (without_rows m t rows)
-gone_rows_stand c m t x rows stands here once there =
-    let es = noted_on m.indexes t in
-    let names = names_on m.indexes t in
-    let ws = gone_rows_changes (at c) m.tables t x.columns es rows in
-    let seen = at_view ws c in
-    let change : ℤ → RowChange = λ r. going r (row_at m.tables t r) in
-    let columns = (table_at m.tables t).columns in
-    let is_row : (r : ℤ) → IsIn r rows → IsRow r = λ r among. row_is_row m.tables stands.state.tables t r (there r among) in
-    let told =
-    rows_in_turn kinds kinds_laws (every kinds) (λ c n y. refl) t names (at c) m.indexes m.tables (lose_row t) change (λ r. refl) is_of_tables (λ r. delete_changes t x.columns r) (λ r. all_delete t x.columns r) apart
-    rows (loses_each m t rows) once is_row (names_on_table m.indexes t) (indexes_hold c m stands) in
-    let same : each (λ r. delete_changes t x.columns r ++ each (row_changes_at kinds (at c) m.indexes columns (change r)) names) rows ≡ ws =
-    λ j. each (λ r. delete_changes t x.columns r ++ notes_are_changes (at c) m.indexes columns (change r) names j) rows in
-    let hold : IndexesHold kinds (view ws (at c)) (tables_after (lose_row t) m.tables rows) (indexes_after kinds (every kinds) (lose_row t) m.tables t rows m.indexes) =
-    subst (λ (ws : List (Key × Option (List ℕ))). IndexesHold kinds (view ws (at c)) (tables_after (lose_row t) m.tables rows) (indexes_after kinds (every kinds) (lose_row t) m.tables t rows m.indexes)) same told in
-    let all = all_rows (at c) m.tables t x.columns es rows in
-    record {
-      only = drops_leave ws c (rows_drop (at c) m.tables t x.columns es rows) stands.only;
-      tables = subst (λ (f : Key → Option (List ℕ)). TablesStand f (tables_after (lose_row t) m.tables rows)) (sym seen)
-          (tables_without (at c) m.tables t x (λ r. all_noted_changes (at c) (change r) es) (λ r. notes_of (at c) (change r) es) rows here stands.state.tables is_row stands.tables);
-      indexes = subst (λ (f : Key → Option (List ℕ)). IndexesStand f (tables_after (lose_row t) m.tables rows) (indexes_after kinds (every kinds) (lose_row t) m.tables t rows m.indexes)) (sym seen) hold.stand;
-      preferences = subst (λ (f : Key → Option (List ℕ)). PreferencesStand f m.preferences) (sym seen) (preferences_frame is_of_row ws (at c) m.preferences all (other_kinds is_of_row refl refl refl refl) stands.preferences);
-      thesauri = thesauri_unchanged is_of_row ws c m.thesauri all refl refl stands.thesauri;
-      short_rows = subst HasShortRows (sym seen) (rows_frame is_of_row ws (at c) all row_rows stands.short_rows);
-      state = record {
-        tables = hold.tables;
-        indexes = hold.rules;
-        views = no_views m t rows stands.state.views;
-        few = λ q. subst (λ (n : ℕ). n ≤ index_limit) (sym (few_after (every kinds) (lose_row t) m.tables t rows m.indexes q)) (stands.state.few q);
-        preferences = stands.state.preferences;
-        thesauri = stands.state.thesauri;
-      };
-    }
+-- the kinds of the entries that a DELETE of rows changes
+abbrev is_of_loss : Kind → Bool
+is_of_loss k = is_entry k || is_of_row k
+
+of_row : (k : Kind) → is_of_row k ≡ true → is_of_loss k ≡ true
+of_row k h = or_right (is_entry k) (is_of_row k) h
+
+loss_rows : (k : Kind) → is_of_rows k ≡ true → is_of_loss k ≡ false
+loss_rows kind.Postings h = refl
+loss_rows kind.Spans h = refl
+loss_rows k h = cc
+
+module _ (c : Content) (m : StoreState) (t : List ℕ) (x : Table) (rows : List ℤ) (stands : StandsForState c m) (here : get m.tables t ≡ Some x)
+    (once : AreApart rows) (there : (r : ℤ) → IsIn r rows → is_some (row_at m.tables t r) ≡ true) where
+  abbrev es : List (List ℕ × Noted)
+  es = noted_on m.indexes t
+
+  abbrev names : List (List ℕ)
+  names = names_on m.indexes t
+
+  abbrev change : ℤ → RowChange
+  change r = going r (row_at m.tables t r)
+
+  -- what is put first, and of the rows
+  abbrev first : List (Key × Option (List ℕ))
+  first = untidying_for kinds (at c) m.indexes names rows
+
+  abbrev later : List (Key × Option (List ℕ))
+  later = gone_rows_changes (at c) m.tables t x.columns es rows
+
+  is_row : (r : ℤ) → IsIn r rows → IsRow r
+  is_row r among = row_is_row m.tables stands.state.tables t r (there r among)
+
+  hold : IndexesHold kinds (view (first ++ later) (at c)) (tables_after (lose_row t) m.tables rows) (indexes_after kinds (every kinds) (lose_row t) m.tables t rows m.indexes)
+  hold =
+      let columns = (table_at m.tables t).columns in
+      let told : first ++ each (λ r. delete_changes t x.columns r ++ each (row_changes_at kinds (at c) m.indexes columns (change r)) names) rows ≡ first ++ later =
+      λ j. first ++ each (λ r. delete_changes t x.columns r ++ notes_are_changes (at c) m.indexes columns (change r) names j) rows in
+      subst (λ (ws : List (Key × Option (List ℕ))). IndexesHold kinds (view ws (at c)) (tables_after (lose_row t) m.tables rows) (indexes_after kinds (every kinds) (lose_row t) m.tables t rows m.indexes)) told
+      (lost_in_turn kinds kinds_laws (every kinds) (λ d n y. refl) t names (at c) m.indexes m.tables (lose_row t) change (λ r. refl) is_of_tables (λ r. delete_changes t x.columns r)
+      (λ r. all_delete t x.columns r) apart rows (λ y. refl) there (loses_each m t rows) once is_row (names_on_table m.indexes t) (indexes_hold c m stands))
+
+  all : AllOf is_of_loss (first ++ later)
+  all =
+      all-append is_of_loss first later
+      (all_weaker is_entry is_of_loss (λ k h. ap (λ (b : Bool). b || is_of_row k) h) first (lost_of c m names rows))
+      (all_weaker is_of_row is_of_loss of_row later (all_rows (at c) m.tables t x.columns es rows))
+
+  -- other entries than there were don't come
+  no_others : HasKeysOnly (after (spell (first ++ later)) c)
+  no_others =
+      subst HasKeysOnly (sym (ap (λ (ws : List (List ℕ × Option (List ℕ))). after ws c) (spell-append first later) ∙ after-append (spell first) (spell later) c))
+      (drops_leave later (after (spell first) c) (rows_drop (at c) m.tables t x.columns es rows) (only-after first c stands.only (lost_are c m names stands rows)))
+
+  tables_stand : TablesStand (view (first ++ later) (at c)) (tables_after (lose_row t) m.tables rows)
+  tables_stand =
+      subst (λ (f : Key → Option (List ℕ)). TablesStand f (tables_after (lose_row t) m.tables rows)) (sym (view-append first later (at c)))
+      (tables_without (view first (at c)) m.tables t x (λ r. all_noted_changes (at c) (change r) es) (λ r. notes_of (at c) (change r) es) rows here stands.state.tables is_row (lost_tables c m names stands rows))
+
+  -- after these rows of a table went, each of which is there once
+  pub gone_rows_stand : StandsForState (after (spell (all_gone_changes c m t x.columns es rows)) c) (without_rows m t rows)
+  gone_rows_stand =
+      let ws = first ++ later in
+      let us = tables_after (lose_row t) m.tables rows in
+      let ys = indexes_after kinds (every kinds) (lose_row t) m.tables t rows m.indexes in
+      let seen = at_view ws c in
+      subst (λ (ws : List (Key × Option (List ℕ))). StandsForState (after (spell (ws ++ later)) c) (without_rows m t rows)) (lost_is c m names rows) (record {
+        only = no_others;
+        tables = subst (λ (f : Key → Option (List ℕ)). TablesStand f us) (sym seen) tables_stand;
+        indexes = subst (λ (f : Key → Option (List ℕ)). IndexesStand f us ys) (sym seen) hold.stand;
+        preferences = subst (λ (f : Key → Option (List ℕ)). PreferencesStand f m.preferences) (sym seen) (preferences_frame is_of_loss ws (at c) m.preferences all (other_kinds is_of_loss refl refl refl refl) stands.preferences);
+        thesauri = thesauri_unchanged is_of_loss ws c m.thesauri all refl refl stands.thesauri;
+        short_rows = subst HasShortRows (sym seen) (rows_frame is_of_loss ws (at c) all loss_rows stands.short_rows);
+        state = record {
+          tables = hold.tables;
+          indexes = hold.rules;
+          views = no_views m t rows stands.state.views;
+          few = λ q. subst (λ (n : ℕ). n ≤ index_limit) (sym (few_after (every kinds) (lose_row t) m.tables t rows m.indexes q)) (stands.state.few q);
+          preferences = stands.state.preferences;
+          thesauri = stands.state.thesauri;
+        };
+      })

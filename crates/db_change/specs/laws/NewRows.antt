@@ -1,5 +1,5 @@
 -- The state after a new row.
-use Rattle.std.proofs.Common.{◌≡◌, ℕ, ℤ, ◌<◌, ◌≤◌, Bool, true, false, cond, List, [], ◌∷◌, ◌++◌, length, map, Option, Some, None, refl, sym, ap, subst, ◌∙◌}
+use Rattle.std.proofs.Common.{◌≡◌, ℕ, ℤ, ◌<◌, ◌≤◌, Bool, true, false, cond, List, [], ◌∷◌, ◌++◌, length, map, Option, Some, None, refl, sym, ap, subst, ◌∙◌, inl}
 use Rattle.std.specs.Prelude.{◌&&◌, is_some}
 use Rattle.std.specs.Option.{option_map}
 use Rattle.std.specs.FinMap.{get, insert, entries}
@@ -38,7 +38,7 @@ use Rattle.db_state.specs.laws.Heads.{store_heads, get-heads, store_head}
 use Rattle.db_state.specs.laws.Kinds.{tables_no_noted, noted_rows}
 use Rattle.ix_kinds.specs.Rows.{RowChange, table_at, row_change}
 use Rattle.ix_kinds.specs.Statements.{AreDistinct, every, is_on, AreIndexesOn, row_changes_at}
-use Rattle.ix_kinds.specs.RowSteps.{DifferInRow, AreUnseen, IndexesHold}
+use Rattle.ix_kinds.specs.RowSteps.{DifferInRow, AreUnseen, IndexesHold, KeepEntries}
 use Rattle.ix_kinds.specs.laws.Standing.{indexes_frame}
 use Rattle.ix_kinds.specs.laws.Tables.{differs, row_now}
 use Rattle.ix_kinds.specs.laws.Rows.{row_stands, row_keeps}
@@ -155,11 +155,15 @@ module _ (c : Content) (m : StoreState) (t : List ℕ) (x : Table) (r : ℤ) (vs
   differ : DifferInRow m.tables us t r
   differ = differ_in_row m.tables t r vs x is
 
+  -- the row is new, so no index loses its order
+  all_keep : KeepEntries kinds (every kinds) t change m.indexes
+  all_keep i y there on = inl (ap (λ (o : Option Table). row_in o r) is ∙ none)
+
   notes_stand : IndexesStand (view notes (view own (at c))) us (with_new_row m t r vs).indexes
   notes_stand =
       subst (λ (ws : List (Key × Option (List ℕ))). IndexesStand (view ws (view own (at c))) us (with_new_row m t r vs).indexes)
       (notes_behind (at c) m.indexes (table_at m.tables t).columns change is_of_tables own (names_on m.indexes t) (all_insert t r (numbers_of vs) (texts_of vs)) apart ∙ notes_is)
-      (row_stands kinds kinds_laws (view own (at c)) m.tables us m.indexes t r (every kinds) (names_on m.indexes t) stands.state.tables after_are stands.state.indexes (names_on_table m.indexes t) differ (none_unseen m.tables us t m.indexes)
+      (row_stands kinds kinds_laws (view own (at c)) m.tables us m.indexes t r (every kinds) (names_on m.indexes t) stands.state.tables after_are stands.state.indexes (names_on_table m.indexes t) differ (none_unseen m.tables us t m.indexes) all_keep
       (indexes_frame kinds kinds_laws.alone is_of_tables own (at c) m.tables m.indexes (all_insert t r (numbers_of vs) (texts_of vs)) apart stands.indexes))
 
   new_row_changes_are : AreChanges (new_row_changes (at c) t r vs (noted_on m.indexes t))

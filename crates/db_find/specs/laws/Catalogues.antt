@@ -8,6 +8,7 @@ use Rattle.ct_entry.specs.Keys.{key, at}
 use Rattle.db_names.specs.declared.heads.IndexHead.{IndexHead}
 use Rattle.ix_kinds.specs.Rows.{table_at}
 use Rattle.ix_kinds.specs.Indextypes.{IndexOf}
+use Rattle.ix_kinds.specs.Standing.{no_place}
 use Rattle.ix_context.specs.laws.Reading.{column_few}
 use Rattle.cat_index.specs.declared.catalogues.Catalogue.{Catalogue}
 use Rattle.cat_index.specs.Catalogues.{CatalogueBody}
@@ -17,7 +18,7 @@ use Rattle.cat_index.specs.laws.Kind.{SameParts, entry_is, parts_one}
 use Rattle.cat_index.specs.laws.Well.{entry_of, spellable}
 use Rattle.cat_search.specs.Contents.{HoldsCatalogue, IsIndexOf}
 use Rattle.ix_indexes.specs.Indexes.{Defined, Index, StandsUnder, as_catalogue}
-use Rattle.ix_indexes.specs.laws.Indexes.{catalogue_at, catalogue_is, entry_at}
+use Rattle.ix_indexes.specs.laws.Indexes.{catalogue_at, catalogue_is, catalogue_spelt}
 use Rattle.db_state.specs.States.{StoreState, StandsForState}
 use Rattle.db_state.specs.laws.Contexts.{holds_tables}
 
@@ -44,7 +45,9 @@ module _ (c : Content) (m : StoreState) (stands : StandsForState c m) (i : List 
       spellable x (table_at m.tables x.table) (held.tables.rules.names x.table held.target.table held.target.there) (omega (arith, few)) held.prefs held.rules
 
   is_spelt : at c (key kind.Indexes i []) ≡ Some (catalogue_bytes (entry_of x))
-  is_spelt = entry_at (at c) m.tables i (Some (as_catalogue x)) (subst (λ (o : Option Index). StandsUnder (at c) m.tables i o) is (stands.indexes i)) ∙ ap Some (sym (entry_is Defined x))
+  is_spelt =
+      let stand : StandsUnder (at c) m.tables i (Some (as_catalogue x)) = subst (λ (o : Option Index). StandsUnder (at c) m.tables i o) is (stands.indexes i) in
+      catalogue_spelt (at c) i x stand.entry
 
   -- its entry spells a catalogue
   pub spells_some : SpellsCatalogue (at c (key kind.Indexes i [])) None → ⊥
@@ -54,7 +57,7 @@ module _ (c : Content) (m : StoreState) (stands : StandsForState c m) (i : List 
     same_entry : SameParts x (as_index [] y)
     same_entry =
         let entries = same_Some _ _ (sym is_spelt ∙ spells.1) in
-        parts_one Defined x (as_index [] y) held.prefs spells.0.prefs (sym (entry_is Defined x) ∙ entries ∙ entry_is Defined (as_index [] y))
+        parts_one Defined x (as_index [] y) no_place no_place held.prefs spells.0.prefs (sym (entry_is Defined x) ∙ entries ∙ entry_is Defined (as_index [] y))
 
     -- which is that of the index
     pub is_index_of : IsIndexOf y x

@@ -1,11 +1,11 @@
 -- The ways out of the function of a statement: each is proved once, by one of these.
-use Rattle.std.proofs.Common.{◌≡◌, ℕ, true, List, Option, Some, None, Result, Ok, Err, Vec, sym, ap, subst, ◌∙◌, arith, inr, inl}
+use Rattle.std.proofs.Common.{◌≡◌, ◌≤◌, ℕ, true, List, Option, Some, None, Result, Ok, Err, Vec, ◌++◌, sym, ap, subst, ◌∙◌, arith, inr, inl}
 use Rattle.std.specs.Result.{IfOk}
 use Rattle.std.specs.declared.alloc.Global.{Global}
 use Rattle.ct_keep.specs.declared.keepers.KeepFault.{KeepFault}
 use Rattle.ct_keep.specs.declared.keepers.KeepFault.TheVariants.{Memory, Disk, Full as NoRoom}
-use Rattle.ct_keep.specs.Content.{Content, after, changes_weight}
-use Rattle.ct_keep.specs.laws.Content.{weight-after_le}
+use Rattle.ct_keep.specs.Content.{Content, after, changes_weight, weight}
+use Rattle.ct_keep.specs.laws.Content.{after-append, weight-after_le}
 use Rattle.ct_base.specs.Told.{IsSaid}
 use Rattle.ct_entry.specs.Keys.{Key}
 use Rattle.ct_entry.specs.Changes.{spell}
@@ -15,9 +15,9 @@ use Rattle.db_cond.specs.Faults.{Refusal, refusal_line}
 use Rattle.db_state.specs.States.{StoreState, StandsForState}
 use Rattle.db_state.specs.Effects.{Effect, Refused, Does, state_by, reply_by}
 use Rattle.db_state.specs.Lines.{call_done}
-use Rattle.db_state.specs.Plans.{DoneLines, line_for_all, GivesEffect, Returns, ReturnsBy, Fulfils, IsPlanOf, IsPlan}
+use Rattle.db_state.specs.Plans.{DoneLines, line_for_all, GivesEffect, Returns, ReturnsBy, Fulfils, IsPlanOf, IsPlan, IsNoHeavier, IsRemoval}
 use Rattle.db_state.specs.declared.plans.Plan.{Plan}
-use Rattle.db_state.specs.declared.plans.Plan.TheVariants.{Done}
+use Rattle.db_state.specs.declared.plans.Plan.TheVariants.{Refused as PlanRefused, Done}
 use Rattle.db_state.specs.laws.Giving.{gives_failed, gives_line, gives_then, gives_as, gives_read, reads_fulls}
 use Rattle.db_state.specs.laws.Returning.{returns_failed, returns_then}
 
@@ -152,11 +152,23 @@ serves_counted effect done rows line old new result is serves = record {
   tells = λ settled. returns_counted done rows line old new result is (serves.tells settled);
 }
 
--- ---- what only takes entries away
+-- ---- what makes nothing heavier
 
--- it is no heavier, so there is room for it
-pub removal_fits : (limit : ℕ) (batch : List (List ℕ × Option (List ℕ))) (c : Content) → changes_weight batch ≡ 0 → PassesLimit limit c (after batch c) → ⊥
-removal_fits limit batch c light passes = let more = weight-after_le batch c in let heavier = passes.heavier in omega (arith, more, heavier, light)
+-- there is room for it
+pub light_fits : (limit : ℕ) (batch : List (List ℕ × Option (List ℕ))) (c : Content) → weight (after batch c) ≤ weight c → PassesLimit limit c (after batch c) → ⊥
+light_fits limit batch c light passes = let heavier = passes.heavier in omega (arith, heavier, light)
+
+-- changes that put nothing, behind others that make nothing heavier
+pub removals_behind : (batch more : List (List ℕ × Option (List ℕ))) (c : Content) → weight (after batch c) ≤ weight c → changes_weight more ≡ 0 → weight (after (batch ++ more) c) ≤ weight c
+removals_behind batch more c light none =
+    let whole = ap weight (after-append batch more c) in
+    let rest = weight-after_le more (after batch c) in
+    omega (arith, whole, rest, light, none)
+
+-- what only takes entries away
+pub removal_light : (c : Content) (plan : Plan) → IsRemoval plan → IsNoHeavier c plan
+removal_light c (PlanRefused fault) removal = tt
+removal_light c (Done batch) removal = let more = weight-after_le batch c in omega (arith, more, removal)
 
 -- the plan of the changes by which a content stands for a state
 pub plan_of : (effect : Effect) (c : Content) (n : StoreState) (ws : List (Key × Option (List ℕ))) (batch : List (List ℕ × Option (List ℕ)))

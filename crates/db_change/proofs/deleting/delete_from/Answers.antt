@@ -1,5 +1,6 @@
 use Rattle.std.proofs.Common.{◌≡◌, ℕ, List, sym, subst, ◌∙◌}
 use Rattle.std.proofs.lemmas.Result.{err_from_is_err_and}
+use Rattle.ct_keep.specs.laws.Composing.{reads_hold}
 use Rattle.db_state.specs.Plans.{IsPlanOf}
 use Rattle.db_state.specs.laws.Serving.{serves_err, serves_short, serves_then, serves_counted, plan_then}
 use Rattle.db_change.specs.Deleting.{delete_from, rows_deleted}
@@ -17,3 +18,6 @@ returns-in_ok-line-in-Ok-clause-done g c =
 
 pub returns-in-Err-clause-done : goal.returns-in-Err-clause-done
 returns-in-Err-clause-done g c = serves_err _ _ _ _ _ c.in-Err.ensures.reads
+
+pub returns-in_ok-line-in-Ok-clause-never_full : goal.returns-in_ok-line-in-Ok-clause-never_full
+returns-in_ok-line-in-Ok-clause-never_full g c = λ m holds. c.carry_out.ensures.light m (reads_hold _ _ m c.in-Ok.ensures.reads holds) (c.in-Ok.ensures.light m holds)

@@ -1,20 +1,15 @@
-use Rattle.std.proofs.Common.{◌≡◌, arith, List, Vec, length, map, ap, sym, ◌∙◌}
+use Rattle.std.proofs.Common.{◌≡◌, arith, List, Vec, length, map, ap, sym, subst, ◌∙◌}
 use Rattle.std.specs.FinMap.{get}
 use Rattle.std.specs.Option.{option_map}
 use Rattle.std.specs.declared.alloc.Global.{Global}
 use Rattle.ct_base.specs.declared.numbers.RowKey.{RowKey}
 use Rattle.ct_keep.specs.laws.Composing.{reads_hold}
-use Rattle.ct_entry.specs.Keys.{at}
-use Rattle.ct_entry.specs.Changes.{spell}
 use Rattle.tb_table.specs.declared.columns.Column.{Column}
 use Rattle.db_cond.specs.Faults.{UnknownName}
 use Rattle.db_state.specs.Effects.{Refused}
 use Rattle.db_state.specs.laws.Columns.{no_table}
-use Rattle.ix_indexes.specs.Noting.{noted_indexes}
-use Rattle.db_change.specs.Deleting.{gone_rows_changes}
-use Rattle.db_change.specs.laws.GoneRows.{drops_weigh_nothing}
+use Rattle.db_change.specs.Deleting.{TakesFromTable}
 use Rattle.db_change.proofs.GoneSteps.{delete_none, delete_refused, delete_done, met_are_there}
-use Rattle.db_change.proofs.NoteSteps.{on_held}
 use Rattle.db_change.proofs.ReadTables.{has_columns}
 use Rattle.db_change.proofs.deleting.delete_plan.Goals as goal
 
@@ -41,20 +36,15 @@ returns-clause-plan g c = record {
       let x = has_columns m t _ c.in-Some.columns columns stands.state.tables (c.in_ok-columns.ensures.columns m k holds stands) c.in-Some.is c.deref.ensures.value in
       let first = reads_hold _ _ k c.in_ok-columns.ensures.reads holds in
       let second = reads_hold _ _ k c.in_ok-rows.ensures.reads first in
-      let third = reads_hold _ _ k c.in_ok-indexes.ensures.reads second in
-      let rows = c.deref-6.result.now in
-      let met = ap (map (λ (row : RowKey). row.0)) c.deref-6.ensures.value ∙ c.in_ok-rows.ensures.keys m k x.table first stands x.there (x.same ∙ c.deref.ensures.value ∙ sym c.deref-2.ensures.value) in
-      let noted = ap noted_indexes c.deref-5.ensures.value ∙ c.in_ok-indexes.ensures.indexes m k x.table second stands x.there (x.same ∙ c.deref.ensures.value ∙ sym c.deref-3.ensures.value) in
-      let same = c.deref-4.ensures.value ∙ sym c.deref.ensures.value in
-      let counted : c.len.result ≡ length rows = let is = c.len.ensures in let shown = ap length c.deref-6.ensures.value in omega (arith, is, shown) in
-      delete_done m t c.args.conds.now x.table columns x.there x.same k stands (noted_indexes c.deref-5.result.now) noted rows met c.in_ok-batch.batch
-      (c.in_ok-batch.ensures.changes m k x.table third stands x.there (x.same ∙ sym same) (met_are_there m t x.table c.args.conds.now rows x.there met) (on_held k m t stands _ noted)
-      ∙ ap (λ (cs : List Column). spell (gone_rows_changes (at k) m.tables t cs (noted_indexes c.deref-5.result.now) (map (λ (row : RowKey). row.0) rows))) same)
+      let rows = c.deref-4.result.now in
+      let met = ap (map (λ (row : RowKey). row.0)) c.deref-4.ensures.value ∙ c.in_ok-rows.ensures.keys m k x.table first stands x.there (x.same ∙ c.deref.ensures.value ∙ sym c.deref-2.ensures.value) in
+      let same = c.deref-3.ensures.value ∙ sym c.deref.ensures.value in
+      let counted : c.len.result ≡ length rows = let is = c.len.ensures in let shown = ap length c.deref-4.ensures.value in omega (arith, is, shown) in
+      delete_done m t c.args.conds.now x.table columns x.there x.same k stands rows met c.in_ok-batch.batch
+      (subst (λ (cs : List Column). TakesFromTable m k t cs (map (λ (row : RowKey). row.0) rows) c.in_ok-batch.batch) same
+      (c.in_ok-batch.ensures.changes m k x.table second stands x.there (x.same ∙ sym same) (met_are_there m t x.table c.args.conds.now rows x.there met)))
       c.len.result counted (c.in_default-delete_fault.ensures.checks x.few);
 }
 
-pub returns-clause-removes : goal.returns-clause-removes
-returns-clause-removes g c = λ k holds.
-    let first = reads_hold _ _ k c.in_ok-columns.ensures.reads holds in
-    let second = reads_hold _ _ k c.in_ok-rows.ensures.reads first in
-    drops_weigh_nothing c.in_ok-batch.batch (c.in_ok-batch.ensures.drops k (reads_hold _ _ k c.in_ok-indexes.ensures.reads second))
+pub returns-clause-light : goal.returns-clause-light
+returns-clause-light g c = λ k holds. c.in_ok-batch.ensures.light k (reads_hold _ _ k c.in_ok-rows.ensures.reads (reads_hold _ _ k c.in_ok-columns.ensures.reads holds))

@@ -21,7 +21,7 @@ returns-in-Some-clause-meaning g c = λ m k x holds stands there.
 
 pub returns-in-Some-clause-at_most : goal.returns-in-Some-clause-at_most
 returns-in-Some-clause-at_most g c = λ m k x holds stands there.
-    let entry = (holds_index k m stands c.args.index.now x there).entry in
+    let entry = (holds_index k m stands c.args.index.now x there).entry.whole in
     rises_behind no_looks _ _ _ c.in_ok-prefs.ensures.at_most (c.meaning_of.ensures.at_most k (reads_hold _ _ k c.in_ok-prefs.ensures.reads holds) c.args.index.now (subst IsSome (sym entry) refl))
 
 pub returns-in-None-clause-meaning : goal.returns-in-None-clause-meaning

@@ -48,8 +48,8 @@ returns-in_err-commit-clause-fulls g c = let p = err_from_is_err_and c.from_resi
 pub returns-clause-fulls : goal.returns-clause-fulls
 returns-clause-fulls g c = ap (λ (n : Counts). n.fulls) c.in_ok-commit.ensures.counts
 
--- ---- what only takes entries away
+-- ---- what makes nothing heavier
 
 pub returns-in_err-commit-clause-light : goal.returns-in_err-commit-clause-light
-returns-in_err-commit-clause-light g c = λ light m holds.
+returns-in_err-commit-clause-light g c = λ m holds light.
     always_fits (g.K.Keeper.view c.args.keeper.now).fixed.limit c.args.batch m c.from_residual.result c.in_err-commit.field-0.0 light (err_from_is_err_and c.from_residual.result c.from_residual.ensures.1) (c.in_err-commit.ensures.answers m holds)

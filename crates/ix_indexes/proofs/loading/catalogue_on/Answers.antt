@@ -1,4 +1,4 @@
-use Rattle.std.proofs.Common.{◌∷◌, [], ap, subst, refl, sym, ◌∙◌, Some}
+use Rattle.std.proofs.Common.{◌∷◌, [], ap, subst, refl, ◌∙◌, Some}
 use Rattle.ct_entry.specs.declared.kinds.Kind.TheVariants as kind
 use Rattle.ct_entry.specs.Keys.{at, key}
 use Rattle.cat_index.specs.Spelling.{SpellsCatalogue}

@@ -29,13 +29,13 @@ returns-in-InContext-clause-shaped g c = context_shaped c.context_notes.result c
 
 pub returns-in_ok-notes-in-InCatalogue-clause-changes : goal.returns-in_ok-notes-in-InCatalogue-clause-changes
 returns-in_ok-notes-in-InCatalogue-clause-changes g c = λ m holds held ch told.
-    c.in_ok-notes-in-InCatalogue.ensures.changes (at m) ch (subst (λ (n : Noting). IsToldBy c.args.event (needs_values (noted_by n)) c.args.row.0 ch) c.in-InCatalogue.is told)
+    c.in_ok-notes-in-InCatalogue.ensures.changes ch (subst (λ (n : Noting). IsToldBy c.args.event (needs_values (noted_by n)) c.args.row.0 ch) c.in-InCatalogue.is told)
     ∙ ap (λ (n : Noting). spell (noted_changes (at m) ch c.args.index.now.name (noted_by n))) (ap (HeldCatalogue c.in-InCatalogue.catalogue) c.as_slice-places.ensures ∙ sym c.in-InCatalogue.is)
 
 pub returns-in_ok-notes-in-InCatalogue-clause-drops : goal.returns-in_ok-notes-in-InCatalogue-clause-drops
 returns-in_ok-notes-in-InCatalogue-clause-drops g c = λ m holds going ch told.
     noted_drop (at m) ch c.args.index.now.name (noted_by (HeldCatalogue c.in-InCatalogue.catalogue c.as_slice-places.result.now)) c.in_ok-notes-in-InCatalogue.notes (is_gone c.args.event _ c.args.row.0 ch going told)
-    (c.in_ok-notes-in-InCatalogue.ensures.changes (at m) ch (subst (λ (n : Noting). IsToldBy c.args.event (needs_values (noted_by n)) c.args.row.0 ch) c.in-InCatalogue.is told))
+    (c.in_ok-notes-in-InCatalogue.ensures.changes ch (subst (λ (n : Noting). IsToldBy c.args.event (needs_values (noted_by n)) c.args.row.0 ch) c.in-InCatalogue.is told))
 
 pub returns-in_ok-notes-in-InCatalogue-clause-shaped : goal.returns-in_ok-notes-in-InCatalogue-clause-shaped
 returns-in_ok-notes-in-InCatalogue-clause-shaped g c = are_shaped_weaker HasCatalogueValue HasIndexValue (λ k v has. inr (inl has)) c.in_ok-notes-in-InCatalogue.notes c.in_ok-notes-in-InCatalogue.ensures.shaped
