@@ -1,9 +1,10 @@
 -- CREATE TABLE and CREATE INDEX are read as they are spelt.
 use Rattle.std.proofs.Common.{◌≡◌, ℕ, Bool, true, false, List, [], ◌∷◌, ◌++◌, refl, sym, ap, ◌∙◌, append_assoc, inl, inr, Option, Some, None}
-use Rattle.st_parse.specs.declared.lexemes.Keyword.TheVariants.{Create as CREATE, Table as TABLE, Index as INDEX, On as ON, Indextype as INDEXTYPE, Is as IS, Ctxsys as CTXSYS, Parameters as PARAMETERS, Context as CONTEXT, Ctxcat as CTXCAT, Ctxrule as CTXRULE, Number as NUMBER, Varchar2 as VARCHAR2, Clob as CLOB, Primary as PRIMARY, Key as KEY, From as FROM, Where as WHERE, And as AND, Order as ORDER}
+use Rattle.st_parse.specs.declared.lexemes.Keyword.TheVariants.{Create as CREATE, Table as TABLE, Index as INDEX, On as ON, Indextype as INDEXTYPE, Is as IS, Ctxsys as CTXSYS, Parameters as PARAMETERS, Parallel as PARALLEL, Context as CONTEXT, Ctxcat as CTXCAT, Ctxrule as CTXRULE, Number as NUMBER, Varchar2 as VARCHAR2, Clob as CLOB, Primary as PRIMARY, Key as KEY, From as FROM, Where as WHERE, And as AND, Order as ORDER}
 use Rattle.st_parse.specs.declared.lexemes.Symbol.TheVariants.{Open, Close, Comma, Dot}
 use Rattle.st_parse.specs.declared.lexemes.Lexeme.{Lexeme}
 use Rattle.st_parse.specs.declared.lexemes.Lexeme.TheVariants.{Word, Name, Number, Text, Sign}
+use Rattle.st_parse.specs.declared.statements.Whole.{Whole}
 use Rattle.st_parse.specs.declared.statements.SortText.{SortText}
 use Rattle.st_parse.specs.declared.statements.SortText.TheVariants.{Number as NumberSort, Varchar2, Clob}
 use Rattle.st_parse.specs.declared.statements.ColumnText.{ColumnText}
@@ -13,7 +14,7 @@ use Rattle.st_parse.specs.declared.statements.Statement.{Statement}
 use Rattle.st_parse.specs.declared.statements.Statement.TheVariants.{CreateTable, CreateIndex}
 use Rattle.st_parse.specs.Lexemes.{◌>>=◌}
 use Rattle.st_parse.specs.Lists.{AreEnclosed, enclosed_last}
-use Rattle.st_parse.specs.Creating.{IsSortText, primary_key, IsColumn, IsPlainKind, IsIndexKind, sort_text_at, primary_key_at, column_text, column_at, IsParameters, plain_kind_at, kind_at, index_kind_at, enclosed_text_of, parameters_of, create_table_of, create_index_of, index_on_of, create_of}
+use Rattle.st_parse.specs.Creating.{IsSortText, primary_key, IsColumn, IsPlainKind, IsIndexKind, sort_text_at, primary_key_at, column_text, column_at, IsParameters, IsParallel, plain_kind_at, kind_at, index_kind_at, enclosed_text_at, parameters_at, parallel_of, create_table_of, create_index_of, index_on_of, create_of}
 use Rattle.st_parse.specs.Grammar.{IsStatement}
 use Rattle.st_parse.proofs.Spelt.{Spelt, Follows, Wholly, enclosed_last-spelt, enclosed_last-again}
 
@@ -104,39 +105,70 @@ kind-again : (kinds rest : List Lexeme) (kind : IndexKind) → IsIndexKind kinds
 kind-again kinds rest kind (inl is) = bare-again kinds rest kind is
 kind-again kinds rest kind (inr (plain, is, e)) = ap (λ x. kind_at (x ++ rest)) e ∙ plain-again plain rest kind is
 
-enclosed-spelt : (ls : List Lexeme) → Wholly IsParameters (enclosed_text_of ls) (Word PARAMETERS ∷ ls)
-enclosed-spelt (Sign Open ∷ Text text ∷ Sign Close ∷ []) = refl
+enclosed-spelt : (ls : List Lexeme) → Spelt IsParameters (enclosed_text_at ls) (Word PARAMETERS ∷ ls)
+enclosed-spelt (Sign Open ∷ Text text ∷ Sign Close ∷ ls) = (Word PARAMETERS ∷ Sign Open ∷ Text text ∷ Sign Close ∷ [], refl, refl)
 enclosed-spelt ls = tt
 
-parameters-spelt : (ls : List Lexeme) → Wholly IsParameters (parameters_of ls) ls
-parameters-spelt [] = refl
+parameters-spelt : (ls : List Lexeme) → Spelt IsParameters (parameters_at ls) ls
 parameters-spelt (Word PARAMETERS ∷ ls) = enclosed-spelt ls
-parameters-spelt ls = tt
+parameters-spelt ls = ([], refl, refl)
 
-parameters-again : (texts : List Lexeme) (parameters : Option (List ℕ)) → IsParameters texts parameters → parameters_of texts ≡ Some parameters
-parameters-again texts None is = ap parameters_of is
-parameters-again texts (Some text) is = ap parameters_of is
+-- no PARAMETERS stand before a PARALLEL
+none-again : (degrees : List Lexeme) (parallel : Option Whole) → IsParallel degrees parallel → parameters_at degrees ≡ Some (None, degrees)
+none-again degrees None is = ap parameters_at is ∙ ap (λ x. Some (None, x)) (sym is)
+none-again degrees (Some degree) (digits, value, is) = ap parameters_at is ∙ ap (λ x. Some (None, x)) (sym is)
+
+parameters-again : (texts degrees : List Lexeme) (parameters : Option (List ℕ)) (parallel : Option Whole) → IsParameters texts parameters → IsParallel degrees parallel
+    → parameters_at (texts ++ degrees) ≡ Some (parameters, degrees)
+parameters-again texts degrees None parallel is degree = ap (λ x. parameters_at (x ++ degrees)) is ∙ none-again degrees parallel degree
+parameters-again texts degrees (Some text) parallel is degree = ap (λ x. parameters_at (x ++ degrees)) is
+
+parallel-spelt : (ls : List Lexeme) → Wholly IsParallel (parallel_of ls) ls
+parallel-spelt [] = refl
+parallel-spelt (Word PARALLEL ∷ Number digits ∷ []) = (digits, refl, refl)
+parallel-spelt ls = tt
+
+parallel-again : (degrees : List Lexeme) (parallel : Option Whole) → IsParallel degrees parallel → parallel_of degrees ≡ Some parallel
+parallel-again degrees None is = ap parallel_of is
+parallel-again degrees (Some degree) (digits, value, is) = ap parallel_of is ∙ ap (λ x. Some (Some x)) (sym value)
 
 table-means : (name : List ℕ) (o : Option (List ColumnText)) (ls : List Lexeme) → Wholly (AreEnclosed IsColumn) o ls
     → Wholly IsStatement (o >>= λ columns. Some (CreateTable name columns)) (Word CREATE ∷ Word TABLE ∷ Name name ∷ ls)
 table-means name None ls are = tt
 table-means name (Some columns) ls are = (ls, are, refl)
 
--- the index of a column, by the type that was read and what follows it
-abbrev indexed : List ℕ → List ℕ → List ℕ → IndexKind → Option (Option (List ℕ)) → Option Statement
-indexed name table column kind o = o >>= λ parameters. Some (CreateIndex name table column kind parameters None)
+-- the lexemes of a statement that makes an index, up to its type
+abbrev index_lexemes : List ℕ → List ℕ → List ℕ → List Lexeme → List Lexeme
+index_lexemes name table column ls = Word CREATE ∷ Word INDEX ∷ Name name ∷ Word ON ∷ Name table ∷ Sign Open ∷ Name column ∷ Sign Close ∷ ls
 
-asked-means : (name table column : List ℕ) (kind : IndexKind) (o : Option (Option (List ℕ))) (kinds rest ls : List Lexeme) → IsIndexKind kinds kind → Wholly IsParameters o rest → ls ≡ Word INDEXTYPE ∷ Word IS ∷ (kinds ++ rest)
-    → Wholly IsStatement (indexed name table column kind o) (Word CREATE ∷ Word INDEX ∷ Name name ∷ Word ON ∷ Name table ∷ Sign Open ∷ Name column ∷ Sign Close ∷ ls)
+-- the index of a column, by its type, its parameters and what is read of its degree
+abbrev indexed : List ℕ → List ℕ → List ℕ → IndexKind → Option (List ℕ) → Option (Option Whole) → Option Statement
+indexed name table column kind parameters o = o >>= λ parallel. Some (CreateIndex name table column kind parameters parallel)
+
+-- the same by its type and what is read of its parameters
+abbrev asked : List ℕ → List ℕ → List ℕ → IndexKind → Option (Option (List ℕ) × List Lexeme) → Option Statement
+asked name table column kind o = o >>= λ parameters. indexed name table column kind parameters.0 (parallel_of parameters.1)
+
+indexed-means : (name table column : List ℕ) (kind : IndexKind) (parameters : Option (List ℕ)) (o : Option (Option Whole)) (kinds texts degrees ls : List Lexeme)
+    → IsIndexKind kinds kind → IsParameters texts parameters → Wholly IsParallel o degrees → ls ≡ Word INDEXTYPE ∷ Word IS ∷ (kinds ++ (texts ++ degrees))
+    → Wholly IsStatement (indexed name table column kind parameters o) (index_lexemes name table column ls)
+indexed-means name table column kind parameters None kinds texts degrees ls is are degree e = tt
+indexed-means name table column kind parameters (Some parallel) kinds texts degrees ls is are degree e =
+    (kinds, texts, degrees, is, are, degree, ap (index_lexemes name table column) e)
+
+asked-means : (name table column : List ℕ) (kind : IndexKind) (o : Option (Option (List ℕ) × List Lexeme)) (kinds rest ls : List Lexeme)
+    → IsIndexKind kinds kind → Spelt IsParameters o rest → ls ≡ Word INDEXTYPE ∷ Word IS ∷ (kinds ++ rest)
+    → Wholly IsStatement (asked name table column kind o) (index_lexemes name table column ls)
 asked-means name table column kind None kinds rest ls is are e = tt
-asked-means name table column kind (Some parameters) kinds rest ls is are e =
-    (kinds, rest, is, are, ap (λ x. Word CREATE ∷ Word INDEX ∷ Name name ∷ Word ON ∷ Name table ∷ Sign Open ∷ Name column ∷ Sign Close ∷ x) e)
+asked-means name table column kind (Some (parameters, degrees)) kinds rest ls is (texts, are, texted) e =
+    indexed-means name table column kind parameters (parallel_of degrees) kinds texts degrees ls is are (parallel-spelt degrees)
+    (e ∙ ap (λ x. Word INDEXTYPE ∷ Word IS ∷ (kinds ++ x)) texted)
 
 index-means : (name table column : List ℕ) (o : Option (IndexKind × List Lexeme)) (ls : List Lexeme) → Spelt IsTyped o ls
-    → Wholly IsStatement (o >>= λ kind. indexed name table column kind.0 (parameters_of kind.1)) (Word CREATE ∷ Word INDEX ∷ Name name ∷ Word ON ∷ Name table ∷ Sign Open ∷ Name column ∷ Sign Close ∷ ls)
+    → Wholly IsStatement (o >>= λ kind. asked name table column kind.0 (parameters_at kind.1)) (index_lexemes name table column ls)
 index-means name table column None ls is = tt
 index-means name table column (Some (kind, rest)) ls (prefix, (kinds, is, typed), e) =
-    asked-means name table column kind (parameters_of rest) kinds rest ls is (parameters-spelt rest) (e ∙ ap (λ x. x ++ rest) typed)
+    asked-means name table column kind (parameters_at rest) kinds rest ls is (parameters-spelt rest) (e ∙ ap (λ x. x ++ rest) typed)
 
 create_table-means : (ls : List Lexeme) → Wholly IsStatement (create_table_of ls) (Word CREATE ∷ Word TABLE ∷ ls)
 create_table-means (Name name ∷ ls) = table-means name (enclosed_last column_at ls) ls (enclosed_last-spelt IsColumn column_at column-spelt ls)
@@ -160,8 +192,11 @@ pub table-again : (name : List ℕ) (columns : List ColumnText) (list : List Lex
 table-again name columns list are =
     ap (λ o. o >>= λ found. Some (CreateTable name found)) (enclosed_last-again IsColumn column_at column-again list columns are)
 
-pub index-again : (name table column : List ℕ) (kind : IndexKind) (parameters : Option (List ℕ)) (kinds texts : List Lexeme) → IsIndexKind kinds kind → IsParameters texts parameters
-    → create_of (Word INDEX ∷ Name name ∷ Word ON ∷ Name table ∷ Sign Open ∷ Name column ∷ Sign Close ∷ Word INDEXTYPE ∷ Word IS ∷ (kinds ++ texts)) ≡ Some (CreateIndex name table column kind parameters None)
-index-again name table column kind parameters kinds texts is are =
-    ap (λ o. o >>= λ found. indexed name table column found.0 (parameters_of found.1)) (kind-again kinds texts kind is)
-    ∙ ap (indexed name table column kind) (parameters-again texts parameters are)
+pub index-again : (name table column : List ℕ) (kind : IndexKind) (parameters : Option (List ℕ)) (parallel : Option Whole) (kinds texts degrees : List Lexeme)
+    → IsIndexKind kinds kind → IsParameters texts parameters → IsParallel degrees parallel
+    → create_of (Word INDEX ∷ Name name ∷ Word ON ∷ Name table ∷ Sign Open ∷ Name column ∷ Sign Close ∷ Word INDEXTYPE ∷ Word IS ∷ (kinds ++ (texts ++ degrees)))
+    ≡ Some (CreateIndex name table column kind parameters parallel)
+index-again name table column kind parameters parallel kinds texts degrees is are degree =
+    ap (λ o. o >>= λ found. asked name table column found.0 (parameters_at found.1)) (kind-again kinds (texts ++ degrees) kind is)
+    ∙ ap (asked name table column kind) (parameters-again texts degrees parameters parallel are degree)
+    ∙ ap (indexed name table column kind parameters) (parallel-again degrees parallel degree)

@@ -17,7 +17,7 @@ use Rattle.st_parse.specs.Values.{IsSigned, signed_at}
 use Rattle.st_parse.specs.declared.procedures.Definition.TheVariants.{CreatePreference, SetAttribute, CreateStoplist, AddStopword, CreateSectionGroup, AddZoneSection, AddFieldSection, AddSpecialSection, CreateIndexSet, AddIndex}
 use Rattle.st_parse.specs.declared.procedures.Procedure.{Procedure}
 use Rattle.st_parse.specs.declared.procedures.ThesaurusCall.TheVariants.{CreateThesaurus, CreateRelation}
-use Rattle.st_parse.specs.declared.procedures.Procedure.TheVariants.{PolicyTokens, SyncIndex, ResultSet, Define, Thesaurus}
+use Rattle.st_parse.specs.declared.procedures.Procedure.TheVariants.{PolicyTokens, SyncIndex, OptimizeIndex, ResultSet, Define, Thesaurus}
 use Rattle.st_parse.specs.Procedures.{procedure_package, procedure_name, all_procedures, procedure_among, procedure_named}
 use Rattle.st_parse.specs.Calling.{IsExec, IsArg, AreArgs, arg_at, args_of, call_of, exec_of}
 use Rattle.st_parse.specs.Grammar.{IsStatement}
@@ -73,6 +73,7 @@ named-spelt pack name (q ∷ qs) p is = go (bytes_eq (procedure_package q) pack)
 named-again : (p : Procedure) → procedure_named (procedure_package p) (procedure_name p) ≡ Some p
 named-again PolicyTokens = refl
 named-again SyncIndex = refl
+named-again OptimizeIndex = refl
 named-again ResultSet = refl
 named-again (Define CreatePreference) = refl
 named-again (Define SetAttribute) = refl

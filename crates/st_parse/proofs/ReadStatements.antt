@@ -48,7 +48,8 @@ pub statement-again : (ls : List Lexeme) (s : Statement) → IsStatement ls s �
 statement-again ls (CreateTable name columns) (list, are, e) = ap statement_of e ∙ table-again name columns list are
 statement-again ls (DropTable name) e = ap statement_of e
 statement-again ls (DropIndex name) e = ap statement_of e
-statement-again ls (CreateIndex name table column kind parameters None) (kinds, texts, is, are, e) = ap statement_of e ∙ index-again name table column kind parameters kinds texts is are
+statement-again ls (CreateIndex name table column kind parameters parallel) (kinds, texts, degrees, is, are, degree, e) =
+    ap statement_of e ∙ index-again name table column kind parameters parallel kinds texts degrees is are degree
 statement-again ls (Insert table columns values) (names, list, are, are', e) = ap statement_of e ∙ insert-again table columns values names list are are'
 statement-again ls (Update table assigns conds) (list, filter, are, is, e) = ap statement_of e ∙ update-again table assigns conds list filter are is
 statement-again ls (Delete table conds) (from, filter, is, are, e) = ap statement_of e ∙ delete-again table conds from filter is are
@@ -57,7 +58,6 @@ statement-again ls (Select list table preds orders) (columns, filter, order, is,
 statement-again ls (Exec procedure args) (word, (list, is, are, e)) =
     ap statement_of e ∙ exec-first word (Name (procedure_package procedure) ∷ Sign Dot ∷ Name (procedure_name procedure) ∷ list) is ∙ exec-again procedure args list are
 statement-again ls Commit e = ap statement_of e
-statement-again ls s is = absurd is
 
 -- both ways
 pub statement-read : (ls : List Lexeme) (s : Statement) → (IsStatement ls s → statement_of ls ≡ Some s) × (statement_of ls ≡ Some s → IsStatement ls s)

@@ -1,10 +1,11 @@
 -- CREATE TABLE and CREATE INDEX, as they are spelt and as they are read.
 use Rattle.std.specs.Prelude.{ℕ, ◌≡◌, ◌⊎◌, Bool, true, false, pos, List, [], ◌∷◌, ◌++◌, codes, Option, Some, None, refl}
-use Rattle.st_parse.specs.declared.lexemes.Keyword.TheVariants.{Table as TABLE, Index as INDEX, On as ON, Indextype as INDEXTYPE, Is as IS, Ctxsys as CTXSYS, Parameters as PARAMETERS, Context as CONTEXT, Ctxcat as CTXCAT, Ctxrule as CTXRULE, Number as NUMBER, Varchar2 as VARCHAR2, Clob as CLOB, Primary as PRIMARY, Key as KEY}
+use Rattle.st_parse.specs.declared.lexemes.Keyword.TheVariants.{Table as TABLE, Index as INDEX, On as ON, Indextype as INDEXTYPE, Is as IS, Ctxsys as CTXSYS, Parameters as PARAMETERS, Parallel as PARALLEL, Context as CONTEXT, Ctxcat as CTXCAT, Ctxrule as CTXRULE, Number as NUMBER, Varchar2 as VARCHAR2, Clob as CLOB, Primary as PRIMARY, Key as KEY}
 use Rattle.st_parse.specs.declared.lexemes.Symbol.TheVariants.{Open, Close, Comma, Dot}
 use Rattle.st_parse.specs.declared.lexemes.Lexeme.{Lexeme}
 use Rattle.st_parse.specs.declared.lexemes.Lexeme.TheVariants.{Word, Name, Number, Text, Sign}
-use Rattle.st_parse.specs.declared.statements.Whole.TheVariants.{Fits}
+use Rattle.st_parse.specs.declared.statements.Whole.{Whole}
+use Rattle.st_parse.specs.declared.statements.Whole.TheVariants.{Fits, Beyond}
 use Rattle.st_parse.specs.declared.statements.SortText.{SortText}
 use Rattle.st_parse.specs.declared.statements.SortText.TheVariants.{Number as NumberSort, Varchar2, Clob}
 use Rattle.st_parse.specs.declared.statements.ColumnText.{ColumnText}
@@ -44,6 +45,11 @@ abbrev pub IsParameters : List Lexeme → Option (List ℕ) → Type 0
 IsParameters ls None = ls ≡ []
 IsParameters ls (Some text) = ls ≡ Word PARAMETERS ∷ Sign Open ∷ Text text ∷ Sign Close ∷ []
 
+-- the number of PARALLEL, where the statement has one
+abbrev pub IsParallel : List Lexeme → Option Whole → Type 0
+IsParallel ls None = ls ≡ []
+IsParallel ls (Some degree) = (digits : List ℕ) × (degree ≡ number digits) × (ls ≡ Word PARALLEL ∷ Number digits ∷ [])
+
 -- The same as functions.
 abbrev pub sort_text_at : Reader SortText
 sort_text_at (Word NUMBER ∷ ls) = Some (NumberSort, ls)
@@ -76,14 +82,18 @@ abbrev pub index_kind_at : Reader IndexKind
 index_kind_at (Word INDEXTYPE ∷ Word IS ∷ ls) = kind_at ls
 index_kind_at ls = None
 
-abbrev pub enclosed_text_of : List Lexeme → Option (Option (List ℕ))
-enclosed_text_of (Sign Open ∷ Text text ∷ Sign Close ∷ []) = Some (Some text)
-enclosed_text_of ls = None
+abbrev pub enclosed_text_at : Reader (Option (List ℕ))
+enclosed_text_at (Sign Open ∷ Text text ∷ Sign Close ∷ ls) = Some (Some text, ls)
+enclosed_text_at ls = None
 
-abbrev pub parameters_of : List Lexeme → Option (Option (List ℕ))
-parameters_of [] = Some None
-parameters_of (Word PARAMETERS ∷ ls) = enclosed_text_of ls
-parameters_of ls = None
+abbrev pub parameters_at : Reader (Option (List ℕ))
+parameters_at (Word PARAMETERS ∷ ls) = enclosed_text_at ls
+parameters_at ls = Some (None, ls)
+
+abbrev pub parallel_of : List Lexeme → Option (Option Whole)
+parallel_of [] = Some None
+parallel_of (Word PARALLEL ∷ Number digits ∷ []) = Some (Some (number digits))
+parallel_of ls = None
 
 -- what follows CREATE TABLE, and what follows CREATE INDEX
 abbrev pub create_table_of : List Lexeme → Option Statement
@@ -91,7 +101,8 @@ create_table_of (Name name ∷ ls) = enclosed_last column_at ls >>= λ columns. 
 create_table_of ls = None
 
 abbrev pub index_of : List ℕ → List ℕ → List ℕ → List Lexeme → Option Statement
-index_of name table column ls = index_kind_at ls >>= λ kind. parameters_of kind.1 >>= λ parameters. Some (CreateIndex name table column kind.0 parameters None)
+index_of name table column ls =
+    index_kind_at ls >>= λ kind. parameters_at kind.1 >>= λ parameters. parallel_of parameters.1 >>= λ parallel. Some (CreateIndex name table column kind.0 parameters.0 parallel)
 
 -- the index of a table, by what follows the table
 abbrev pub index_on_of : List ℕ → List ℕ → List Lexeme → Option Statement
@@ -133,8 +144,22 @@ a_stoplist : index_of (codes "i") (codes "t") (codes "a") (Word INDEXTYPE ∷ Wo
     ≡ Some (CreateIndex (codes "i") (codes "t") (codes "a") Context (Some (codes "stoplist sl")) None)
 a_stoplist = refl
 
-no_text : parameters_of (Word PARAMETERS ∷ Sign Open ∷ Sign Close ∷ []) ≡ None
+no_text : parameters_at (Word PARAMETERS ∷ Sign Open ∷ Sign Close ∷ []) ≡ None
 no_text = refl
+
+on_four_threads : index_of (codes "i") (codes "t") (codes "a") (Word INDEXTYPE ∷ Word IS ∷ Word CONTEXT ∷ Word PARALLEL ∷ Number (codes "04") ∷ [])
+    ≡ Some (CreateIndex (codes "i") (codes "t") (codes "a") Context None (Some (Fits (pos 4))))
+on_four_threads = refl
+
+no_number_of_threads : parallel_of (Word PARALLEL ∷ []) ≡ None
+no_number_of_threads = refl
+
+a_number_that_is_too_large : parallel_of (Word PARALLEL ∷ Number (codes "9223372036854775808") ∷ []) ≡ Some (Some Beyond)
+a_number_that_is_too_large = refl
+
+parameters_come_first : index_of (codes "i") (codes "t") (codes "a")
+    (Word INDEXTYPE ∷ Word IS ∷ Word CONTEXT ∷ Word PARALLEL ∷ Number (codes "4") ∷ Word PARAMETERS ∷ Sign Open ∷ Text (codes "stoplist sl") ∷ Sign Close ∷ []) ≡ None
+parameters_come_first = refl
 
 two_columns : create_of (Word INDEX ∷ Name (codes "i") ∷ Word ON ∷ Name (codes "t") ∷ Sign Open ∷ Name (codes "a") ∷ Sign Comma
     ∷ Name (codes "b") ∷ Sign Close ∷ Word INDEXTYPE ∷ Word IS ∷ Word CONTEXT ∷ []) ≡ None

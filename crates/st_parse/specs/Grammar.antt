@@ -24,7 +24,7 @@ use Rattle.st_parse.specs.Lexemes.{lexemes}
 use Rattle.st_parse.specs.Lists.{AreListed, AreEnclosed, IsWhere}
 use Rattle.st_parse.specs.Values.{IsOperand}
 use Rattle.st_parse.specs.Conditions.{IsCond}
-use Rattle.st_parse.specs.Creating.{IsColumn, IsIndexKind, IsParameters, create_of}
+use Rattle.st_parse.specs.Creating.{IsColumn, IsIndexKind, IsParameters, IsParallel, create_of}
 use Rattle.st_parse.specs.Dropping.{drop_of}
 use Rattle.st_parse.specs.Inserting.{AreColumnNames, insert_of}
 use Rattle.st_parse.specs.Updating.{IsAssign, assign_to, update_of}
@@ -35,15 +35,15 @@ use Rattle.st_parse.specs.declared.procedures.Procedure.TheVariants.{PolicyToken
 use Rattle.st_parse.specs.Procedures.{procedure_package, procedure_name}
 use Rattle.st_parse.specs.Calling.{IsExec, AreArgs, exec_of}
 
--- These lexemes are this statement. A statement without a case here isn't one of the language yet.
+-- These lexemes are this statement.
 abbrev pub IsStatement : List Lexeme → Statement → Type 0
 IsStatement ls (CreateTable name columns) =
     (list : List Lexeme) × AreEnclosed IsColumn list columns × (ls ≡ Word CREATE ∷ Word TABLE ∷ Name name ∷ list)
 IsStatement ls (DropTable name) = ls ≡ Word DROP ∷ Word TABLE ∷ Name name ∷ []
 IsStatement ls (DropIndex name) = ls ≡ Word DROP ∷ Word INDEX ∷ Name name ∷ []
-IsStatement ls (CreateIndex name table column kind parameters None) =
-    (kinds texts : List Lexeme) × IsIndexKind kinds kind × IsParameters texts parameters
-    × (ls ≡ Word CREATE ∷ Word INDEX ∷ Name name ∷ Word ON ∷ Name table ∷ Sign Open ∷ Name column ∷ Sign Close ∷ Word INDEXTYPE ∷ Word IS ∷ (kinds ++ texts))
+IsStatement ls (CreateIndex name table column kind parameters parallel) =
+    (kinds texts degrees : List Lexeme) × IsIndexKind kinds kind × IsParameters texts parameters × IsParallel degrees parallel
+    × (ls ≡ Word CREATE ∷ Word INDEX ∷ Name name ∷ Word ON ∷ Name table ∷ Sign Open ∷ Name column ∷ Sign Close ∷ Word INDEXTYPE ∷ Word IS ∷ (kinds ++ (texts ++ degrees)))
 IsStatement ls (Insert table columns values) =
     (names list : List Lexeme) × AreColumnNames names columns × AreEnclosed IsOperand list values × (ls ≡ Word INSERT ∷ Word INTO ∷ Name table ∷ (names ++ Word VALUES ∷ list))
 IsStatement ls (Update table assigns conds) =
@@ -56,7 +56,6 @@ IsStatement ls (Select list table preds orders) =
 IsStatement ls (Exec procedure args) =
     (word : Keyword) × ((list : List Lexeme) × IsExec word × AreArgs list args × (ls ≡ Word word ∷ Name (procedure_package procedure) ∷ Sign Dot ∷ Name (procedure_name procedure) ∷ list))
 IsStatement ls Commit = ls ≡ Word COMMIT ∷ []
-IsStatement ls statement = ⊥
 
 -- they are none
 abbrev pub IsNoStatement : List Lexeme → Type 0
@@ -118,6 +117,11 @@ catalogue : read (codes "CREATE INDEX ci ON items(title) INDEXTYPE IS CTXSYS.CTX
     ≡ Found (CreateIndex (codes "ci") (codes "items") (codes "title") Ctxcat (Some (codes "INDEX SET iset")) None)
 unfolding encode
 catalogue = refl
+
+parallel : read (codes "CREATE INDEX ci ON items(title) INDEXTYPE IS CTXCAT PARAMETERS ('') PARALLEL 16")
+    ≡ Found (CreateIndex (codes "ci") (codes "items") (codes "title") Ctxcat (Some []) (Some (Fits (pos 16))))
+unfolding encode
+parallel = refl
 
 rules : read (codes "CREATE INDEX ri ON desks(rule) INDEXTYPE IS CTXRULE") ≡ Found (CreateIndex (codes "ri") (codes "desks") (codes "rule") Ctxrule None None)
 rules = refl

@@ -6,7 +6,7 @@ use Rattle.st_parse.specs.declared.procedures.Definition.TheVariants.{CreatePref
 use Rattle.st_parse.specs.declared.procedures.ThesaurusCall.{ThesaurusCall}
 use Rattle.st_parse.specs.declared.procedures.ThesaurusCall.TheVariants.{CreateThesaurus, CreateRelation}
 use Rattle.st_parse.specs.declared.procedures.Procedure.{Procedure}
-use Rattle.st_parse.specs.declared.procedures.Procedure.TheVariants.{PolicyTokens, SyncIndex, ResultSet, Define, Thesaurus}
+use Rattle.st_parse.specs.declared.procedures.Procedure.TheVariants.{PolicyTokens, SyncIndex, OptimizeIndex, ResultSet, Define, Thesaurus}
 
 abbrev pub definition_name : Definition → List ℕ
 definition_name CreatePreference = codes "create_preference"
@@ -27,6 +27,7 @@ thesaurus_call_name CreateRelation = codes "create_relation"
 abbrev pub procedure_package : Procedure → List ℕ
 procedure_package PolicyTokens = codes "ctx_doc"
 procedure_package SyncIndex = codes "ctx_ddl"
+procedure_package OptimizeIndex = codes "ctx_ddl"
 procedure_package ResultSet = codes "ctx_query"
 procedure_package (Define definition) = codes "ctx_ddl"
 procedure_package (Thesaurus call) = codes "ctx_thes"
@@ -34,13 +35,14 @@ procedure_package (Thesaurus call) = codes "ctx_thes"
 abbrev pub procedure_name : Procedure → List ℕ
 procedure_name PolicyTokens = codes "policy_tokens"
 procedure_name SyncIndex = codes "sync_index"
+procedure_name OptimizeIndex = codes "optimize_index"
 procedure_name ResultSet = codes "result_set"
 procedure_name (Define definition) = definition_name definition
 procedure_name (Thesaurus call) = thesaurus_call_name call
 
 abbrev pub all_procedures : List Procedure
 all_procedures =
-    PolicyTokens ∷ SyncIndex ∷ ResultSet ∷ Define CreatePreference ∷ Define SetAttribute ∷ Define CreateStoplist ∷ Define AddStopword ∷ Define CreateSectionGroup
+    PolicyTokens ∷ SyncIndex ∷ OptimizeIndex ∷ ResultSet ∷ Define CreatePreference ∷ Define SetAttribute ∷ Define CreateStoplist ∷ Define AddStopword ∷ Define CreateSectionGroup
     ∷ Define AddZoneSection ∷ Define AddFieldSection ∷ Define AddSpecialSection ∷ Define CreateIndexSet ∷ Define AddIndex ∷ Thesaurus CreateThesaurus ∷ Thesaurus CreateRelation ∷ []
 
 -- the first of some that has these names
@@ -61,6 +63,9 @@ a_sub_index = refl
 
 a_relation : procedure_named (codes "ctx_thes") (codes "create_relation") ≡ Some (Thesaurus CreateRelation)
 a_relation = refl
+
+an_optimisation : procedure_named (codes "ctx_ddl") (codes "optimize_index") ≡ Some OptimizeIndex
+an_optimisation = refl
 
 a_result_set : procedure_named (codes "ctx_query") (codes "result_set") ≡ Some ResultSet
 a_result_set = refl

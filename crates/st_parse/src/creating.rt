@@ -1,14 +1,14 @@
 //! CREATE TABLE and CREATE INDEX.
 
 ghost use Rattle.std.specs.Prelude.{◌≡◌, ◌≤◌, length, IfOk};
-ghost use Rattle.st_parse.specs.Creating.{sort_text_at, primary_key_at, column_at, plain_kind_at, kind_at, index_kind_at, enclosed_text_of, parameters_of, index_of, index_on_of, create_table_of, create_index_of, create_of};
+ghost use Rattle.st_parse.specs.Creating.{sort_text_at, primary_key_at, column_at, plain_kind_at, kind_at, index_kind_at, enclosed_text_at, parameters_at, parallel_of, index_of, index_on_of, create_table_of, create_index_of, create_of};
 ghost use Rattle.st_parse.specs.Reading.{ReadGives, StatementGives};
 
 use crate::lexemes::{Keyword, Lexeme, Symbol};
 use crate::listing::{Element, read_enclosed_last};
 use crate::numbers::number;
 use crate::parsing::StatementFault;
-use crate::statements::{ColumnText, ColumnTexts, IndexKind, SortText, Statement};
+use crate::statements::{ColumnText, ColumnTexts, IndexKind, SortText, Statement, Whole};
 use ct_base::{Name, Text};
 use std::alloc::Global;
 
@@ -125,27 +125,41 @@ fn kind(lexemes: &[Lexeme]) -> Result<(IndexKind, &[Lexeme]), StatementFault>
     }
 }
 
-/// A text in parentheses, where nothing follows.
-fn enclosed_text(lexemes: &[Lexeme]) -> Result<Option<Text>, StatementFault>
-    ensures { ReadGives (λ p. p) result (enclosed_text_of lexemes.now) }
+/// A text in parentheses, and what follows.
+fn enclosed_text(lexemes: &[Lexeme]) -> Result<(Option<Text>, &[Lexeme]), StatementFault>
+    ensures { ReadGives (λ p. (p.0, p.1.now)) result (enclosed_text_at lexemes.now) }
 {
     match lexemes {
         [
             Lexeme::Sign(Symbol::Open),
             Lexeme::Text(text),
             Lexeme::Sign(Symbol::Close),
-        ] => Ok(Some(text.clone()?)),
+            rest @ ..,
+        ] => {
+            let text = text.clone()?;
+            Ok((Some(text), rest))
+        }
         _ => Err(StatementFault::Syntax),
     }
 }
 
-/// The text of PARAMETERS, if there is one, where nothing else follows.
-fn parameters(lexemes: &[Lexeme]) -> Result<Option<Text>, StatementFault>
-    ensures { ReadGives (λ p. p) result (parameters_of lexemes.now) }
+/// The text of PARAMETERS, if there is one, and what follows.
+fn parameters(lexemes: &[Lexeme]) -> Result<(Option<Text>, &[Lexeme]), StatementFault>
+    ensures { ReadGives (λ p. (p.0, p.1.now)) result (parameters_at lexemes.now) }
+{
+    match lexemes {
+        [Lexeme::Word(Keyword::Parameters), rest @ ..] => enclosed_text(rest),
+        _ => Ok((None, lexemes)),
+    }
+}
+
+/// The number of PARALLEL, if there is one, where nothing else follows. Any number is taken here.
+fn parallel(lexemes: &[Lexeme]) -> Result<Option<Whole>, StatementFault>
+    ensures { ReadGives (λ p. p) result (parallel_of lexemes.now) }
 {
     match lexemes {
         [] => Ok(None),
-        [Lexeme::Word(Keyword::Parameters), rest @ ..] => enclosed_text(rest),
+        [Lexeme::Word(Keyword::Parallel), Lexeme::Number(digits)] => Ok(Some(number(digits))),
         _ => Err(StatementFault::Syntax),
     }
 }
@@ -160,14 +174,15 @@ fn index(
     ensures { StatementGives result (index_of name.now table.now column.now lexemes.now) }
 {
     let (kind, rest) = kind(lexemes)?;
-    let parameters = parameters(rest)?;
+    let (parameters, rest) = parameters(rest)?;
+    let parallel = parallel(rest)?;
     Ok(Statement::CreateIndex {
         name: name.clone()?,
         table: table.clone()?,
         column: column.clone()?,
         kind,
         parameters,
-        parallel: None,
+        parallel,
     })
 }
 

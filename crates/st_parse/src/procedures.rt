@@ -32,6 +32,8 @@ pub enum Procedure {
     PolicyTokens,
     /// CTX_DDL.SYNC_INDEX.
     SyncIndex,
+    /// CTX_DDL.OPTIMIZE_INDEX.
+    OptimizeIndex,
     /// CTX_QUERY.RESULT_SET.
     ResultSet,
     /// One of CTX_DDL that defines something for indexes.
@@ -41,9 +43,10 @@ pub enum Procedure {
 }
 
 /// All procedures.
-const ALL_PROCEDURES: [Procedure; 15] = [
+const ALL_PROCEDURES: [Procedure; 16] = [
     Procedure::PolicyTokens,
     Procedure::SyncIndex,
+    Procedure::OptimizeIndex,
     Procedure::ResultSet,
     Procedure::Define(Definition::CreatePreference),
     Procedure::Define(Definition::SetAttribute),
@@ -98,7 +101,7 @@ impl Procedure {
     {
         match self {
             Procedure::PolicyTokens => "ctx_doc",
-            Procedure::SyncIndex | Procedure::Define(_) => "ctx_ddl",
+            Procedure::SyncIndex | Procedure::OptimizeIndex | Procedure::Define(_) => "ctx_ddl",
             Procedure::ResultSet => "ctx_query",
             Procedure::Thesaurus(_) => "ctx_thes",
         }
@@ -111,6 +114,7 @@ impl Procedure {
         match self {
             Procedure::PolicyTokens => "policy_tokens",
             Procedure::SyncIndex => "sync_index",
+            Procedure::OptimizeIndex => "optimize_index",
             Procedure::ResultSet => "result_set",
             Procedure::Define(definition) => definition.name(),
             Procedure::Thesaurus(call) => call.name(),
