@@ -10,9 +10,9 @@ use Rattle.std.proofs.lemmas.Bool.{and_parts, leb-true}
 use Rattle.std.proofs.lemmas.Option.{cond_some}
 use Rattle.std.proofs.lemmas.Slice.Eq.{bytes_eq-Decides}
 use Rattle.ct_base.specs.laws.Options.{and_then_some, option_map_some}
-use Rattle.db_arguments.specs.Arguments.{Part, File, Limit, Rows, OptionName, LimitOption, GenerateOption, spelling, part_of, is_part, if_part, Item, Spaced, Joined, Plain, item_arguments, item_texts, IsItem, after_items, Give, Spells, AskForNothing, least_limit, store_limit, most_rows, is_option_like}
+use Rattle.db_arguments.specs.Arguments.{Part, File, Limit, Degree, Rows, OptionName, LimitOption, DegreeOption, GenerateOption, spelling, part_of, is_part, if_part, Item, Spaced, Joined, Plain, item_arguments, item_texts, IsItem, IsLimit, IsDegree, after_items, Give, Spells, AskForNothing, least_limit, store_limit, greatest_degree, most_rows, is_option_like}
 use Rattle.db_arguments.specs.Gathering.{Values, Next, Any, Value, Trailing, Stage, IsGiven, all_given, gather, gathers, joined_to, met_by, nothing_given, put, stage_by, with_dashes, with_option, with_text, after_prefix}
-use Rattle.db_arguments.specs.Reading.{AskFor, Store, Script, Wanted, is_in_range, is_number, number_of, wanted, wanted_by}
+use Rattle.db_arguments.specs.Reading.{AskFor, Store, Script, Wanted, degree_by, is_in_range, is_number, limit_by, number_of, wanted, wanted_by}
 use Rattle.db_arguments.specs.laws.OneReading.{Adds, others_for, refused, wanted_of}
 use Rattle.db_arguments.specs.declared.arguments.Asked.{Asked}
 use Rattle.db_arguments.specs.declared.parsing.Given.{Given}
@@ -63,19 +63,26 @@ pub data Takes (v : Values) (argument : List ℕ) (s : Stage) : Type 0 where
   IsFile : is_option_like argument ≡ false → v File ≡ None → (with_text v File argument, Any) ≡ s → Takes v argument s
 
 module _ (v : Values) (argument : List ℕ) (s : Stage) where
-  option_taken : (a b : Bool) (o p : Option (List ℕ)) → bytes_eq argument (codes "--limit") ≡ a → bytes_eq argument (codes "--generate") ≡ b
-      → after_prefix (codes "--limit=") argument ≡ o → after_prefix (codes "--generate=") argument ≡ p
-      → with_option v (cond a (Some (LimitOption, None)) (cond b (Some (GenerateOption, None)) (joined_to LimitOption o (joined_to GenerateOption p None)))) ≡ Some s → Takes v argument s
-  option_taken true b o p ea eb eo ep e = IsOption LimitOption ((bytes_eq-Decides argument (codes "--limit")).0 ea) (cc)
-  option_taken false true o p ea eb eo ep e = IsOption GenerateOption ((bytes_eq-Decides argument (codes "--generate")).0 eb) (cc)
-  option_taken false false (Some value) p ea eb eo ep e = let q = then_taken v Limit value Any s e in IsJoined LimitOption value (prefix_is (codes "--limit=") argument value eo) q.0 q.1
-  option_taken false false None (Some value) ea eb eo ep e = let q = then_taken v Rows value Any s e in IsJoined GenerateOption value (prefix_is (codes "--generate=") argument value ep) q.0 q.1
-  option_taken false false None None ea eb eo ep e = cc
+  option_taken : (a d b : Bool) (o n p : Option (List ℕ)) → bytes_eq argument (codes "--limit") ≡ a → bytes_eq argument (codes "--degree") ≡ d → bytes_eq argument (codes "--generate") ≡ b
+      → after_prefix (codes "--limit=") argument ≡ o → after_prefix (codes "--degree=") argument ≡ n → after_prefix (codes "--generate=") argument ≡ p
+      → with_option v (cond a (Some (LimitOption, None)) (cond d (Some (DegreeOption, None)) (cond b (Some (GenerateOption, None))
+      (joined_to LimitOption o (joined_to DegreeOption n (joined_to GenerateOption p None)))))) ≡ Some s → Takes v argument s
+  option_taken true d b o n p ea ed eb eo en ep e = IsOption LimitOption ((bytes_eq-Decides argument (codes "--limit")).0 ea) (cc)
+  option_taken false true b o n p ea ed eb eo en ep e = IsOption DegreeOption ((bytes_eq-Decides argument (codes "--degree")).0 ed) (cc)
+  option_taken false false true o n p ea ed eb eo en ep e = IsOption GenerateOption ((bytes_eq-Decides argument (codes "--generate")).0 eb) (cc)
+  option_taken false false false (Some value) n p ea ed eb eo en ep e =
+      let q = then_taken v Limit value Any s e in IsJoined LimitOption value (prefix_is (codes "--limit=") argument value eo) q.0 q.1
+  option_taken false false false None (Some value) p ea ed eb eo en ep e =
+      let q = then_taken v Degree value Any s e in IsJoined DegreeOption value (prefix_is (codes "--degree=") argument value en) q.0 q.1
+  option_taken false false false None None (Some value) ea ed eb eo en ep e =
+      let q = then_taken v Rows value Any s e in IsJoined GenerateOption value (prefix_is (codes "--generate=") argument value ep) q.0 q.1
+  option_taken false false false None None None ea ed eb eo en ep e = cc
 
   dashes_taken : (a : Bool) → bytes_eq argument (codes "--") ≡ a → cond a (Some (v, Trailing)) (with_option v (met_by argument)) ≡ Some s → Takes v argument s
   dashes_taken true is e = IsEnd ((bytes_eq-Decides argument (codes "--")).0 is) (cc)
   dashes_taken false other e =
-      option_taken (bytes_eq argument (codes "--limit")) (bytes_eq argument (codes "--generate")) (after_prefix (codes "--limit=") argument) (after_prefix (codes "--generate=") argument) refl refl refl refl e
+      option_taken (bytes_eq argument (codes "--limit")) (bytes_eq argument (codes "--degree")) (bytes_eq argument (codes "--generate"))
+      (after_prefix (codes "--limit=") argument) (after_prefix (codes "--degree=") argument) (after_prefix (codes "--generate=") argument) refl refl refl refl refl refl e
 
   item_taken : (a : Bool) → is_option_like argument ≡ a → cond a (with_dashes v argument) (stage_by Any (put v File argument)) ≡ Some s → Takes v argument s
   item_taken true is e = dashes_taken (bytes_eq argument (codes "--")) refl e
@@ -117,12 +124,19 @@ module _ (v u : Values) (text : List ℕ) (r s : Part → List (List ℕ)) where
   text_before : (part : Part) → v part ≡ None → With part → Without part
   text_before File none h File = own_text File none (h File)
   text_before File none h Limit = h Limit
+  text_before File none h Degree = h Degree
   text_before File none h Rows = h Rows
   text_before Limit none h File = h File
+  text_before Degree none h File = h File
   text_before Limit none h Limit = own_text Limit none (h Limit)
+  text_before Degree none h Degree = own_text Degree none (h Degree)
   text_before Limit none h Rows = h Rows
+  text_before Degree none h Rows = h Rows
+  text_before Limit none h Degree = h Degree
   text_before Rows none h File = h File
   text_before Rows none h Limit = h Limit
+  text_before Rows none h Degree = h Degree
+  text_before Degree none h Limit = h Limit
   text_before Rows none h Rows = own_text Rows none (h Rows)
 
 -- with an item before them
@@ -161,6 +175,7 @@ module _ (v : Values) (arguments : List (List ℕ)) (u : Values) where
 file_before : (v u : Values) (file : List ℕ) (others : List (List ℕ)) → v File ≡ None → GiveFiles (with_text v File file) others u → GiveFiles v (file ∷ others) u
 file_before v u file others none h File = subst (λ (o : Option (List ℕ)). option_to_list o ++ file ∷ others ≡ option_to_list (u File)) (sym none) (h File)
 file_before v u file others none h Limit = h Limit
+file_before v u file others none h Degree = h Degree
 file_before v u file others none h Rows = h Rows
 
 files_give : (arguments : List (List ℕ)) (v u : Values) → gathers v Trailing arguments ≡ Some u → GiveFiles v arguments u
@@ -172,6 +187,7 @@ files_give [] v u e = nothing_more
     nothing_more : GiveFiles v [] u
     nothing_more File = append-nil (option_to_list (v File)) ∙ ap (λ (w : Values). option_to_list (w File)) same
     nothing_more Limit = append-nil (option_to_list (v Limit)) ∙ ap (λ (w : Values). option_to_list (w Limit)) same
+    nothing_more Degree = append-nil (option_to_list (v Degree)) ∙ ap (λ (w : Values). option_to_list (w Degree)) same
     nothing_more Rows = append-nil (option_to_list (v Rows)) ∙ ap (λ (w : Values). option_to_list (w Rows)) same
 files_give (file ∷ others) v u e =
     let p = and_then_some (λ (s : Stage). gathers s.0 s.1 others) (gather v Trailing file) u e in
@@ -193,6 +209,7 @@ none_more v u e = record { items = []; others = None; are_items = tt; spelt = re
     nothing_more : Adds v [] None (λ part. option_to_list (u part))
     nothing_more File = append-nil (option_to_list (v File)) ∙ ap (λ (w : Values). option_to_list (w File)) same
     nothing_more Limit = append-nil (option_to_list (v Limit)) ∙ ap (λ (w : Values). option_to_list (w Limit)) same
+    nothing_more Degree = append-nil (option_to_list (v Degree)) ∙ ap (λ (w : Values). option_to_list (w Degree)) same
     nothing_more Rows = append-nil (option_to_list (v Rows)) ∙ ap (λ (w : Values). option_to_list (w Rows)) same
 
 module _ (argument : List ℕ) (more : List (List ℕ)) (give : GiveAny more) where
@@ -232,7 +249,8 @@ all_give : (arguments : List (List ℕ)) → GiveAny arguments × GiveValue argu
 all_give [] = (none_more, λ v u option e. cc)
 all_give (argument ∷ more) = let r = all_give more in (one_more argument more r.0 r.1, one_more_value argument more r.0)
 
-gathered_give : (arguments : List (List ℕ)) (v : Values) → all_given arguments ≡ Some v → Give arguments (option_to_list (v File)) (option_to_list (v Limit)) (option_to_list (v Rows))
+gathered_give : (arguments : List (List ℕ)) (v : Values) → all_given arguments ≡ Some v
+    → Give arguments (option_to_list (v File)) (option_to_list (v Limit)) (option_to_list (v Degree)) (option_to_list (v Rows))
 gathered_give arguments v e =
     let r : GiveAfter nothing_given arguments v = (all_give arguments).0 nothing_given v e in
     record {
@@ -242,35 +260,44 @@ gathered_give arguments v e =
       spelt = r.spelt;
       files_are = r.adds File;
       limits_are = sym (append-nil (flat_map (item_texts Limit) r.items)) ∙ r.adds Limit;
+      degrees_are = sym (append-nil (flat_map (item_texts Degree) r.items)) ∙ r.adds Degree;
       rows_are = sym (append-nil (flat_map (item_texts Rows) r.items)) ∙ r.adds Rows;
     }
 
 -- ---- what is asked for
 
-give_asks : (arguments : List (List ℕ)) (file limit rows : Option (List ℕ)) (w : Wanted) → Give arguments (option_to_list file) (option_to_list limit) (option_to_list rows)
-    → wanted file limit rows ≡ Some w → AskFor arguments w
-give_asks arguments (Some file) None None w g e = subst (AskFor arguments) (as_store file store_limit w e) (record { limits = []; give = g; limited = refl })
-  where
-    as_store : (file : List ℕ) (limit : ℕ) (w : Wanted) → Some (Store file limit) ≡ Some w → Store file limit ≡ w
-    as_store file limit w e = cc
-give_asks arguments (Some file) (Some value) None w g e =
-    let p = option_map_some (Store file) (number_of least_limit store_limit value) w e in
-    subst (AskFor arguments) p.2 (record { limits = value ∷ []; give = g; limited = read_is_spelt least_limit store_limit value p.0 p.1 })
-give_asks arguments (Some file) limit (Some rows) w g e = cc
-give_asks arguments None None (Some value) w g e =
+limit_asked : (o : Option (List ℕ)) (limit : ℕ) → limit_by o ≡ Some limit → IsLimit (option_to_list o) limit
+limit_asked None limit e = cc
+limit_asked (Some value) limit e = read_is_spelt least_limit store_limit value limit e
+
+degree_asked : (o : Option (List ℕ)) (degree : ℕ) → degree_by o ≡ Some degree → IsDegree (option_to_list o) degree
+degree_asked None degree e = cc
+degree_asked (Some value) degree e = read_is_spelt 1 greatest_degree value degree e
+
+give_asks : (arguments : List (List ℕ)) (file limit degree rows : Option (List ℕ)) (w : Wanted)
+    → Give arguments (option_to_list file) (option_to_list limit) (option_to_list degree) (option_to_list rows) → wanted file limit degree rows ≡ Some w → AskFor arguments w
+give_asks arguments (Some file) limit degree None w g e =
+    let p = and_then_some (λ (n : ℕ). option_map (Store file n) (degree_by degree)) (limit_by limit) w e in
+    let q = option_map_some (Store file p.0) (degree_by degree) w p.2 in
+    subst (AskFor arguments) q.2
+    (record { limits = option_to_list limit; degrees = option_to_list degree; give = g; limited = limit_asked limit p.0 p.1; parallel = degree_asked degree q.0 q.1 })
+give_asks arguments (Some file) limit degree (Some rows) w g e = cc
+give_asks arguments None None None (Some value) w g e =
     let p = option_map_some Script (number_of 1 most_rows value) w e in
     subst (AskFor arguments) p.2 (record { value = value; give = g; spells = read_is_spelt 1 most_rows value p.0 p.1 })
-give_asks arguments None (Some value) rows w g e = cc
-give_asks arguments None None None w g e = cc
+give_asks arguments None (Some value) degree rows w g e = cc
+give_asks arguments None None (Some value) rows w g e = cc
+give_asks arguments None None None None w g e = cc
 
 -- what is asked for by what was given
-pub given_asks : (arguments : List (List ℕ)) (v : Values) (file limit rows : Option (List ℕ)) (w : Wanted) → all_given arguments ≡ Some v → file ≡ v File → limit ≡ v Limit → rows ≡ v Rows
-    → wanted file limit rows ≡ Some w → AskFor arguments w
-given_asks arguments v file limit rows w are f l r e = give_asks arguments (v File) (v Limit) (v Rows) w (gathered_give arguments v are) (rw (← f, ← l, ← r) e)
+pub given_asks : (arguments : List (List ℕ)) (v : Values) (file limit degree rows : Option (List ℕ)) (w : Wanted)
+    → all_given arguments ≡ Some v → file ≡ v File → limit ≡ v Limit → degree ≡ v Degree → rows ≡ v Rows → wanted file limit degree rows ≡ Some w → AskFor arguments w
+given_asks arguments v file limit degree rows w are f l d r e =
+    give_asks arguments (v File) (v Limit) (v Degree) (v Rows) w (gathered_give arguments v are) (rw (← f, ← l, ← d, ← r) e)
 
-pub given_ask_nothing : (arguments : List (List ℕ)) (v : Values) (file limit rows : Option (List ℕ)) → all_given arguments ≡ Some v → file ≡ v File → limit ≡ v Limit → rows ≡ v Rows
-    → wanted file limit rows ≡ None → AskForNothing arguments
-given_ask_nothing arguments v file limit rows are f l r e = refused arguments (ap (option_and_then wanted_of) are ∙ rw (← f, ← l, ← r) e)
+pub given_ask_nothing : (arguments : List (List ℕ)) (v : Values) (file limit degree rows : Option (List ℕ))
+    → all_given arguments ≡ Some v → file ≡ v File → limit ≡ v Limit → degree ≡ v Degree → rows ≡ v Rows → wanted file limit degree rows ≡ None → AskForNothing arguments
+given_ask_nothing arguments v file limit degree rows are f l d r e = refused arguments (ap (option_and_then wanted_of) are ∙ rw (← f, ← l, ← d, ← r) e)
 
 pub nothing_gathered : (arguments : List (List ℕ)) → all_given arguments ≡ None → AskForNothing arguments
 nothing_gathered arguments none = refused arguments (ap (option_and_then wanted_of) none)
@@ -278,13 +305,13 @@ nothing_gathered arguments none = refused arguments (ap (option_and_then wanted_
 -- ---- what the code answers
 
 pub asked_some : (arguments : List (List ℕ)) (given : Given) (o : Option Asked) → IsGiven arguments given
-    → option_map wanted_by o ≡ wanted (option_map (λ f. f.now) given.file) (option_map (λ l. l.now) given.limit) (option_map (λ r. r.now) given.rows)
+    → option_map wanted_by o ≡ wanted (option_map (λ f. f.now) given.file) (option_map (λ l. l.now) given.limit) (option_map (λ d. d.now) given.degree) (option_map (λ r. r.now) given.rows)
     → IfSome o (λ a. AskFor arguments (wanted_by a))
 asked_some arguments given None is e = tt
-asked_some arguments given (Some a) is e = given_asks arguments is.values _ _ _ (wanted_by a) is.are is.file is.limit is.rows (sym e)
+asked_some arguments given (Some a) is e = given_asks arguments is.values _ _ _ _ (wanted_by a) is.are is.file is.limit is.degree is.rows (sym e)
 
 pub asked_none : (arguments : List (List ℕ)) (given : Given) (o : Option Asked) → IsGiven arguments given
-    → option_map wanted_by o ≡ wanted (option_map (λ f. f.now) given.file) (option_map (λ l. l.now) given.limit) (option_map (λ r. r.now) given.rows)
+    → option_map wanted_by o ≡ wanted (option_map (λ f. f.now) given.file) (option_map (λ l. l.now) given.limit) (option_map (λ d. d.now) given.degree) (option_map (λ r. r.now) given.rows)
     → IfNone o (AskForNothing arguments)
-asked_none arguments given None is e = given_ask_nothing arguments is.values _ _ _ is.are is.file is.limit is.rows (sym e)
+asked_none arguments given None is e = given_ask_nothing arguments is.values _ _ _ _ is.are is.file is.limit is.degree is.rows (sym e)
 asked_none arguments given (Some a) is e = tt

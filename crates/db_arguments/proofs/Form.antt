@@ -21,8 +21,8 @@ use Rattle.clap.specs.Kinds.{FailsBy, IsAmong, Kinds, or_else}
 use Rattle.clap.specs.Faults.{bundle_fault, flag_word_fault, fault_of, flags_fault, long_fault, is_simple_and_free}
 use Rattle.clap.proofs.CutLemmas.{Lacks}
 use Rattle.clap.proofs.LexerLemmas.{name_and_value-at, name_and_value-without}
-use Rattle.db_arguments.specs.Arguments.{Part, File, Limit, Rows, OptionName, LimitOption, GenerateOption, spelling, part_of, is_option_like}
-use Rattle.db_arguments.specs.Form.{app, bare, file_arg, generate_arg, limit_arg}
+use Rattle.db_arguments.specs.Arguments.{Part, File, Limit, Degree, Rows, OptionName, LimitOption, DegreeOption, GenerateOption, spelling, part_of, is_option_like}
+use Rattle.db_arguments.specs.Form.{app, bare, degree_arg, file_arg, generate_arg, limit_arg}
 use Rattle.db_arguments.specs.Gathering.{met_by, after_prefix}
 
 -- ---- the command
@@ -31,10 +31,11 @@ use Rattle.db_arguments.specs.Gathering.{met_by, after_prefix}
 abbrev pub rule : Part → Rule
 rule File = with_index 1 (filled file_arg)
 rule Limit = filled limit_arg
+rule Degree = filled degree_arg
 rule Rows = filled generate_arg
 
 abbrev pub form : List Rule
-form = rule Limit ∷ rule Rows ∷ rule File ∷ []
+form = rule Limit ∷ rule Degree ∷ rule Rows ∷ rule File ∷ []
 
 abbrev pub shape : Shape
 shape = (built app).top
@@ -51,11 +52,13 @@ simple_form = refl
 abbrev pub id : Part → Text
 id File = codes "file"
 id Limit = codes "limit"
+id Degree = codes "degree"
 id Rows = codes "generate"
 
 pub by_id : (part : Part) → arg_by_id form (id part) ≡ Some (rule part)
 by_id File = refl
 by_id Limit = refl
+by_id Degree = refl
 by_id Rows = refl
 
 -- ---- faults
@@ -121,22 +124,27 @@ split_of text = go (equals_in text)
 -- an option alone, and one with a value behind `=`
 pub long_alone : (option : OptionName) → long_of (spelling option) ≡ Some (id (part_of option), None)
 long_alone LimitOption = refl
+long_alone DegreeOption = refl
 long_alone GenerateOption = refl
 
 pub long_joined : (option : OptionName) (text : List ℕ) → long_of (spelling option ++ 61 ∷ text) ≡ Some (id (part_of option), Some text)
 long_joined LimitOption text = refl
+long_joined DegreeOption text = refl
 long_joined GenerateOption text = refl
 
 pub by_long : (option : OptionName) → arg_by_long form (id (part_of option)) ≡ Some (rule (part_of option))
 by_long LimitOption = refl
+by_long DegreeOption = refl
 by_long GenerateOption = refl
 
 pub met_alone : (option : OptionName) → met_by (spelling option) ≡ Some (option, None)
 met_alone LimitOption = refl
+met_alone DegreeOption = refl
 met_alone GenerateOption = refl
 
 pub met_joined : (option : OptionName) (text : List ℕ) → met_by (spelling option ++ 61 ∷ text) ≡ Some (option, Some text)
 met_joined LimitOption text = refl
+met_joined DegreeOption text = refl
 met_joined GenerateOption text = refl
 
 -- nothing that looks like an option but these is one
@@ -198,20 +206,22 @@ module _ (rows : List Row) (pending : Option (Text × List Text)) where
       (subst (λ (s : Option Text). IsFault (option_map_or (λ (flags : Text). bundle_fault form false flags held) s [])) (sym short) (short_fault_of c cs first.char first.is))
 
   -- `--name`, where no option has the name
-  long_unknown : (name : List ℕ) (value : Option (List ℕ)) → bytes_eq (codes "limit") name ≡ false → bytes_eq (codes "generate") name ≡ false
+  long_unknown : (name : List ℕ) (value : Option (List ℕ)) → bytes_eq (codes "limit") name ≡ false → bytes_eq (codes "degree") name ≡ false → bytes_eq (codes "generate") name ≡ false
       → IsFault (long_fault form false (arg_by_long form name) value held)
-  long_unknown name value a b = rw (a, b) tt
+  long_unknown name value a d b = rw (a, d, b) tt
 
 named : (option : OptionName) (name : List ℕ) (value : Option (List ℕ)) → id (part_of option) ≡ name → met_by (45 ∷ 45 ∷ (name ++ joined_part value)) ≡ None → ⊥
 named option name None same unmet = none-some (option, None) (sym unmet ∙ ap (λ (n : List ℕ). met_by (45 ∷ 45 ∷ (n ++ []))) (sym same) ∙ alone option)
   where
     alone : (option : OptionName) → met_by (45 ∷ 45 ∷ (id (part_of option) ++ [])) ≡ Some (option, None)
     alone LimitOption = refl
+    alone DegreeOption = refl
     alone GenerateOption = refl
 named option name (Some text) same unmet = none-some (option, Some text) (sym unmet ∙ ap (λ (n : List ℕ). met_by (45 ∷ 45 ∷ (n ++ 61 ∷ text))) (sym same) ∙ joined option)
   where
     joined : (option : OptionName) → met_by (45 ∷ 45 ∷ (id (part_of option) ++ 61 ∷ text)) ≡ Some (option, Some text)
     joined LimitOption = refl
+    joined DegreeOption = refl
     joined GenerateOption = refl
 
 unknown_long : (d : ℕ) (ds : List ℕ) → met_by (45 ∷ 45 ∷ d ∷ ds) ≡ None → (rows : List Row) (pending : Option (Text × List Text))
@@ -219,14 +229,15 @@ unknown_long : (d : ℕ) (ds : List ℕ) → met_by (45 ∷ 45 ∷ d ∷ ds) ≡
 unknown_long d ds unmet rows pending =
     let s = split_of (d ∷ ds) in
     let unmet_too : met_by (45 ∷ 45 ∷ (s.name ++ joined_part s.value)) ≡ None = ap (λ (l : List ℕ). met_by (45 ∷ 45 ∷ l)) (sym s.is) ∙ unmet in
-    let faulty = go s.name s.value (bytes_eq (codes "limit") s.name) (bytes_eq (codes "generate") s.name) refl refl unmet_too in
+    let faulty = go s.name s.value (bytes_eq (codes "limit") s.name) (bytes_eq (codes "degree") s.name) (bytes_eq (codes "generate") s.name) refl refl refl unmet_too in
     subst (λ (p : Text × Option Text). IsFault (long_fault form false (arg_by_long form p.0) p.1 (nothing_skipped rows pending))) (sym s.cut) faulty
   where
-    go : (name : List ℕ) (value : Option (List ℕ)) (a b : Bool) → bytes_eq (codes "limit") name ≡ a → bytes_eq (codes "generate") name ≡ b → met_by (45 ∷ 45 ∷ (name ++ joined_part value)) ≡ None
-        → IsFault (long_fault form false (arg_by_long form name) value (nothing_skipped rows pending))
-    go name value true b is other none = absurd (named LimitOption name value ((bytes_eq-Decides (codes "limit") name).0 is) none)
-    go name value false true other is none = absurd (named GenerateOption name value ((bytes_eq-Decides (codes "generate") name).0 is) none)
-    go name value false false a b none = long_unknown rows pending name value a b
+    go : (name : List ℕ) (value : Option (List ℕ)) (a c b : Bool) → bytes_eq (codes "limit") name ≡ a → bytes_eq (codes "degree") name ≡ c → bytes_eq (codes "generate") name ≡ b
+        → met_by (45 ∷ 45 ∷ (name ++ joined_part value)) ≡ None → IsFault (long_fault form false (arg_by_long form name) value (nothing_skipped rows pending))
+    go name value true c b is two three none = absurd (named LimitOption name value ((bytes_eq-Decides (codes "limit") name).0 is) none)
+    go name value false true b one is three none = absurd (named DegreeOption name value ((bytes_eq-Decides (codes "degree") name).0 is) none)
+    go name value false false true one two is none = absurd (named GenerateOption name value ((bytes_eq-Decides (codes "generate") name).0 is) none)
+    go name value false false false one two three none = long_unknown rows pending name value one two three
 
 unknown_fault : (argument : List ℕ) → is_option_like argument ≡ true → bytes_eq argument (codes "--") ≡ false → IsSpelt argument → met_by argument ≡ None
     → (rows : List Row) (pending : Option (Text × List Text)) → IsFault (flag_word_fault form false (long_of argument) argument (nothing_skipped rows pending))
@@ -250,16 +261,19 @@ unknown_fault (b ∷ c ∷ cs) like other spelt unmet rows pending =
 
 pub look_of : (argument : List ℕ) → is_option_like argument ≡ true → bytes_eq argument (codes "--") ≡ false → IsSpelt argument → Look argument
 look_of argument like other spelt =
-    go (bytes_eq argument (codes "--limit")) (bytes_eq argument (codes "--generate")) (after_prefix (codes "--limit=") argument) (after_prefix (codes "--generate=") argument) refl refl refl refl
+    go (bytes_eq argument (codes "--limit")) (bytes_eq argument (codes "--degree")) (bytes_eq argument (codes "--generate"))
+    (after_prefix (codes "--limit=") argument) (after_prefix (codes "--degree=") argument) (after_prefix (codes "--generate=") argument) refl refl refl refl refl refl
   where
-    go : (a b : Bool) (o p : Option (List ℕ)) → bytes_eq argument (codes "--limit") ≡ a → bytes_eq argument (codes "--generate") ≡ b
-        → after_prefix (codes "--limit=") argument ≡ o → after_prefix (codes "--generate=") argument ≡ p → Look argument
-    go true b o p ea eb eo ep = Alone LimitOption ((bytes_eq-Decides argument (codes "--limit")).0 ea)
-    go false true o p ea eb eo ep = Alone GenerateOption ((bytes_eq-Decides argument (codes "--generate")).0 eb)
-    go false false (Some text) p ea eb eo ep = WithValue LimitOption text (prefix_is (codes "--limit=") argument text eo)
-    go false false None (Some text) ea eb eo ep = WithValue GenerateOption text (prefix_is (codes "--generate=") argument text ep)
-    go false false None None ea eb eo ep =
-        let unmet : met_by argument ≡ None = rw (ea, eb, eo, ep) refl in
+    go : (a d b : Bool) (o n p : Option (List ℕ)) → bytes_eq argument (codes "--limit") ≡ a → bytes_eq argument (codes "--degree") ≡ d → bytes_eq argument (codes "--generate") ≡ b
+        → after_prefix (codes "--limit=") argument ≡ o → after_prefix (codes "--degree=") argument ≡ n → after_prefix (codes "--generate=") argument ≡ p → Look argument
+    go true d b o n p ea ed eb eo en ep = Alone LimitOption ((bytes_eq-Decides argument (codes "--limit")).0 ea)
+    go false true b o n p ea ed eb eo en ep = Alone DegreeOption ((bytes_eq-Decides argument (codes "--degree")).0 ed)
+    go false false true o n p ea ed eb eo en ep = Alone GenerateOption ((bytes_eq-Decides argument (codes "--generate")).0 eb)
+    go false false false (Some text) n p ea ed eb eo en ep = WithValue LimitOption text (prefix_is (codes "--limit=") argument text eo)
+    go false false false None (Some text) p ea ed eb eo en ep = WithValue DegreeOption text (prefix_is (codes "--degree=") argument text en)
+    go false false false None None (Some text) ea ed eb eo en ep = WithValue GenerateOption text (prefix_is (codes "--generate=") argument text ep)
+    go false false false None None None ea ed eb eo en ep =
+        let unmet : met_by argument ≡ None = rw (ea, ed, eb, eo, en, ep) refl in
         Unknown (record { unmet = unmet; fault = unknown_fault argument like other spelt unmet })
 
 -- an argument that doesn't look like an option is none to clap
@@ -285,10 +299,10 @@ bare_of given plain named first second new =
     ap app_of_fields second ∙ ap (λ (f : Command-F Command). app_of_fields (record f { disable_help_flag = true })) first
     ∙ ap (on_top (λ (s : Shape). record s { no_binary_name = true; disable_help_flag = true })) new
 
-pub app_is : (plain first second whole : App) (limit generate file : Rule) → plain ≡ bare → first ≡ with_rule plain limit → second ≡ with_rule first generate → whole ≡ with_rule second file
-    → limit ≡ limit_arg → generate ≡ generate_arg → file ≡ file_arg → whole ≡ app
-app_is plain first second whole limit generate file p f s w l g i =
-    w ∙ ap₂ with_rule (s ∙ ap₂ with_rule (f ∙ ap₂ with_rule p l) g) i
+pub app_is : (plain first second third whole : App) (limit degree generate file : Rule) → plain ≡ bare → first ≡ with_rule plain limit → second ≡ with_rule first degree → third ≡ with_rule second generate
+    → whole ≡ with_rule third file → limit ≡ limit_arg → degree ≡ degree_arg → generate ≡ generate_arg → file ≡ file_arg → whole ≡ app
+app_is plain first second third whole limit degree generate file p f s t w l d g i =
+    w ∙ ap₂ with_rule (t ∙ ap₂ with_rule (s ∙ ap₂ with_rule (f ∙ ap₂ with_rule p l) d) g) i
 
 -- what a parse of it answers
 abbrev pub Taken : List Text → ArgMatches → Type 0

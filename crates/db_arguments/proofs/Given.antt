@@ -9,7 +9,7 @@ use Rattle.clap.specs.Faults.{settle_fault, use_fault}
 use Rattle.clap.specs.declared.builder.value_parser.Reading.{Reading}
 use Rattle.clap.specs.declared.parser.matches.ValueSource.TheVariants.{CommandLine}
 use Rattle.clap.specs.declared.error.kind.ErrorKind.TheVariants as kind
-use Rattle.db_arguments.specs.Arguments.{Part, File, Limit, Rows}
+use Rattle.db_arguments.specs.Arguments.{Part, File, Limit, Degree, Rows}
 use Rattle.db_arguments.specs.Gathering.{Values, with_text}
 use Rattle.db_arguments.proofs.Form.{by_id, form, id, nothing_skipped, rule}
 
@@ -40,6 +40,7 @@ row_added name how text rows none =
 use_adds : (part : Part) (text : Text) (rows : List Row) → has_row (id part) rows ≡ false → used (rule part) (text ∷ []) rows ≡ rows ++ new_row (id part) (reading_by (rule part)) text ∷ []
 use_adds File text rows none = row_added (id File) (reading_by (rule File)) text rows none
 use_adds Limit text rows none = row_added (id Limit) (reading_by (rule Limit)) text rows none
+use_adds Degree text rows none = row_added (id Degree) (reading_by (rule Degree)) text rows none
 use_adds Rows text rows none = row_added (id Rows) (reading_by (rule Rows)) text rows none
 
 -- ---- what rows have
@@ -108,12 +109,19 @@ use_has : (part : Part) (text : Text) (rows : List Row) (v : Values) → RowsHav
     → Has (id other) (with_text v part text other) (rows ++ new_row (id part) (reading_by (rule part)) text ∷ [])
 use_has File text rows v have none File = has_new (id File) _ text rows refl (rw none at (have File))
 use_has File text rows v have none Limit = has_old (id Limit) (id File) _ text (v Limit) rows refl (have Limit)
+use_has File text rows v have none Degree = has_old (id Degree) (id File) _ text (v Degree) rows refl (have Degree)
 use_has File text rows v have none Rows = has_old (id Rows) (id File) _ text (v Rows) rows refl (have Rows)
 use_has Limit text rows v have none File = has_old (id File) (id Limit) _ text (v File) rows refl (have File)
+use_has Degree text rows v have none File = has_old (id File) (id Degree) _ text (v File) rows refl (have File)
 use_has Limit text rows v have none Limit = has_new (id Limit) _ text rows refl (rw none at (have Limit))
+use_has Degree text rows v have none Degree = has_new (id Degree) _ text rows refl (rw none at (have Degree))
 use_has Limit text rows v have none Rows = has_old (id Rows) (id Limit) _ text (v Rows) rows refl (have Rows)
+use_has Degree text rows v have none Rows = has_old (id Rows) (id Degree) _ text (v Rows) rows refl (have Rows)
+use_has Limit text rows v have none Degree = has_old (id Degree) (id Limit) _ text (v Degree) rows refl (have Degree)
 use_has Rows text rows v have none File = has_old (id File) (id Rows) _ text (v File) rows refl (have File)
 use_has Rows text rows v have none Limit = has_old (id Limit) (id Rows) _ text (v Limit) rows refl (have Limit)
+use_has Rows text rows v have none Degree = has_old (id Degree) (id Rows) _ text (v Degree) rows refl (have Degree)
+use_has Degree text rows v have none Limit = has_old (id Limit) (id Degree) _ text (v Limit) rows refl (have Limit)
 use_has Rows text rows v have none Rows = has_new (id Rows) _ text rows refl (rw none at (have Rows))
 
 no_row : (part : Part) (rows : List Row) (v : Values) → RowsHave rows v → v part ≡ None → has_row (id part) rows ≡ false
@@ -128,6 +136,7 @@ used_have part text rows v have none other =
 pub first_use : (part : Part) (text : Text) (rows : List Row) (v : Values) → RowsHave rows v → v part ≡ None → use_fault false (rule part) (text ∷ []) rows ≡ []
 first_use File text rows v have none = rw (no_row File rows v have none) refl
 first_use Limit text rows v have none = rw (no_row Limit rows v have none) refl
+first_use Degree text rows v have none = rw (no_row Degree rows v have none) refl
 first_use Rows text rows v have none = rw (no_row Rows rows v have none) refl
 
 has_row_by : (part : Part) (rows : List Row) (v : Values) (text : Text) → RowsHave rows v → v part ≡ Some text → has_row (id part) rows ≡ true
@@ -136,11 +145,13 @@ has_row_by part rows v text have some = (have part).there ∙ ap (λ (o : Option
 pub second_use : (part : Part) (text other : Text) (rows : List Row) (v : Values) → RowsHave rows v → v part ≡ Some other → use_fault false (rule part) (text ∷ []) rows ≡ kind.ArgumentConflict ∷ []
 second_use File text other rows v have some = rw (has_row_by File rows v other have some) refl
 second_use Limit text other rows v have some = rw (has_row_by Limit rows v other have some) refl
+second_use Degree text other rows v have some = rw (has_row_by Degree rows v other have some) refl
 second_use Rows text other rows v have some = rw (has_row_by Rows rows v other have some) refl
 
 pub no_value_used : (part : Part) (rows : List Row) → use_fault false (rule part) [] rows ≡ kind.InvalidValue ∷ []
 no_value_used File rows = refl
 no_value_used Limit rows = refl
+no_value_used Degree rows = refl
 no_value_used Rows rows = refl
 
 -- ---- what waits to be used

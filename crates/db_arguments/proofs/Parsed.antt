@@ -12,7 +12,7 @@ use Rattle.clap.specs.Kinds.{IsAmong, Kinds, or_else}
 use Rattle.clap.specs.declared.error.kind.ErrorKind.{ErrorKind}
 use Rattle.clap.specs.declared.error.kind.ErrorKind.TheVariants.{OutOfMemory}
 use Rattle.clap.specs.Faults.{check_fault, default_fault, defaults_fault, entered_fault, fault_of, given_default_fault, settle_fault, turn_fault, walk_fault}
-use Rattle.db_arguments.specs.Arguments.{Part, File, Limit, Rows, part_of}
+use Rattle.db_arguments.specs.Arguments.{Part, File, Limit, Degree, Rows, part_of}
 use Rattle.db_arguments.specs.Gathering.{Values, Next, Any, Value, Trailing, Stage, all_given, gather, gathers, nothing_given}
 use Rattle.db_arguments.specs.Form.{app}
 use Rattle.db_arguments.proofs.Form.{IsFault, IsSpelt, fault_first, fault_second, form, id, nothing_skipped, rule, shape}
@@ -114,21 +114,25 @@ same_rows false rows = refl
 default_kept : (part : Part) (rows : List Row) → with_default rows (rule part) ≡ rows
 default_kept File rows = same_rows (has_row (id File) rows) rows
 default_kept Limit rows = same_rows (has_row (id Limit) rows) rows
+default_kept Degree rows = same_rows (has_row (id Degree) rows) rows
 default_kept Rows rows = same_rows (has_row (id Rows) rows) rows
 
 default_passes : (part : Part) (rows : List Row) → default_fault rows (rule part) ≡ []
 default_passes File rows = no_default (has_row (id File) rows) (given_default_fault (rule File) [])
 default_passes Limit rows = no_default (has_row (id Limit) rows) (given_default_fault (rule Limit) [])
+default_passes Degree rows = no_default (has_row (id Degree) rows) (given_default_fault (rule Degree) [])
 default_passes Rows rows = no_default (has_row (id Rows) rows) (given_default_fault (rule Rows) [])
 
 defaults_pass : (rows : List Row) → defaults_fault rows form ≡ []
 unfolding defaults_fault
 defaults_pass rows =
     let second = with_default rows (rule Limit) in
-    let third = with_default second (rule Rows) in
-    ap (λ (k : Kinds). or_else k (defaults_fault second (rule Rows ∷ rule File ∷ []))) (default_passes Limit rows)
-    ∙ ap (λ (k : Kinds). or_else k (defaults_fault third (rule File ∷ []))) (default_passes Rows second)
-    ∙ ap (λ (k : Kinds). or_else k []) (default_passes File third)
+    let third = with_default second (rule Degree) in
+    let last = with_default third (rule Rows) in
+    ap (λ (k : Kinds). or_else k (defaults_fault second (rule Degree ∷ rule Rows ∷ rule File ∷ []))) (default_passes Limit rows)
+    ∙ ap (λ (k : Kinds). or_else k (defaults_fault third (rule Rows ∷ rule File ∷ []))) (default_passes Degree second)
+    ∙ ap (λ (k : Kinds). or_else k (defaults_fault last (rule File ∷ []))) (default_passes Rows third)
+    ∙ ap (λ (k : Kinds). or_else k []) (default_passes File last)
 
 -- nothing is missing
 nothing_missing : (rows : List Row) (has_subcommand : Bool) → check_fault shape rows has_subcommand ≡ []
@@ -141,7 +145,9 @@ tail_passes rows all has_subcommand = ap (λ (k : Kinds). or_else k (check_fault
 finished_is : (w : Walk) → finished form w.held ≡ (settled form w.held).rows
 finished_is w =
     let rows = (settled form w.held).rows in
-    default_kept File (with_default (with_default rows (rule Limit)) (rule Rows)) ∙ default_kept Rows (with_default rows (rule Limit)) ∙ default_kept Limit rows
+    let second = with_default rows (rule Limit) in
+    let third = with_default second (rule Degree) in
+    default_kept File (with_default third (rule Rows)) ∙ default_kept Rows third ∙ default_kept Degree second ∙ default_kept Limit rows
 
 passes_all : (walk_kinds below settle tail : Kinds) → walk_kinds ≡ [] → below ≡ [] → settle ≡ [] → tail ≡ [] → or_else walk_kinds (or_else below (or_else settle tail)) ≡ []
 passes_all walk_kinds below settle tail a b c d = rw (a, b, c, d) refl

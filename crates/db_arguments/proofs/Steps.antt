@@ -7,7 +7,7 @@ use Rattle.std.proofs.lemmas.Slice.Eq.{bytes_eq-Decides}
 use Rattle.clap.specs.Walk.{Held, Row, Rule, Text, Waiting, Walk, idle, option as awaits, positional, is_pending, pushed, settled, subcommand_met, used, walked, word_met}
 use Rattle.clap.specs.Kinds.{Kinds, or_else}
 use Rattle.clap.specs.Faults.{positional_fault, settle_fault, step_fault, stray_fault, turn_fault, use_fault, word_fault}
-use Rattle.db_arguments.specs.Arguments.{Part, File, OptionName, LimitOption, GenerateOption, spelling, part_of, is_option_like}
+use Rattle.db_arguments.specs.Arguments.{Part, File, OptionName, LimitOption, DegreeOption, GenerateOption, spelling, part_of, is_option_like}
 use Rattle.db_arguments.specs.Gathering.{Values, Next, Any, Value, Trailing, Stage, Met, put, stage_by, with_text, with_dashes, with_option, met_by, gather}
 use Rattle.db_arguments.proofs.Form.{IsFault, IsPlainWord, IsSpelt, IsUnknown, Look, Alone, WithValue, Unknown, fault_first, fault_second, form, id, look_of, met_alone, met_joined, nothing_skipped, plain_word_of, rule, shape}
 use Rattle.db_arguments.proofs.Given.{Rest, RowsHave, Waits, first_use, no_value_used, pending_of, rest_rows, rest_settles, second_use, settle_fault_is, settled_in, used_have}
@@ -69,6 +69,7 @@ put_some v part text other some = ap (λ (o : Option Text). if is_none o then So
 -- the FILE's place stays where an option is given
 same_place : (v : Values) (option : OptionName) (text : Text) → with_text v (part_of option) text File ≡ v File
 same_place v LimitOption text = refl
+same_place v DegreeOption text = refl
 same_place v GenerateOption text = refl
 
 -- no argument is a subcommand
@@ -97,11 +98,13 @@ module _ (waiting : Waiting) (position : ℕ) (rows : List Row) (pending : Optio
 
   alone_fault : (option : OptionName) → turn_fault shape [] here (spelling option) ≡ or_else sf []
   alone_fault LimitOption = rw (no_subcommand waiting (codes "--limit")) refl
+  alone_fault DegreeOption = rw (no_subcommand waiting (codes "--degree")) refl
   alone_fault GenerateOption = rw (no_subcommand waiting (codes "--generate")) refl
 
   alone_walked : (option : OptionName) → walked form [] here (spelling option) ≡ walk_at false (awaits (id (part_of option))) position (settled_in rows pending) (Some (id (part_of option), []))
   unfolding walked
   alone_walked LimitOption = rw (no_subcommand waiting (codes "--limit")) refl
+  alone_walked DegreeOption = rw (no_subcommand waiting (codes "--degree")) refl
   alone_walked GenerateOption = rw (no_subcommand waiting (codes "--generate")) refl
 
   -- the fault of an option with a value
@@ -113,12 +116,14 @@ module _ (waiting : Waiting) (position : ℕ) (rows : List Row) (pending : Optio
 
   joined_fault : (option : OptionName) (text : Text) → turn_fault shape [] here (spelling option ++ 61 ∷ text) ≡ jf option text
   joined_fault LimitOption text = rw (no_subcommand waiting (codes "--limit" ++ 61 ∷ text)) refl
+  joined_fault DegreeOption text = rw (no_subcommand waiting (codes "--degree" ++ 61 ∷ text)) refl
   joined_fault GenerateOption text = rw (no_subcommand waiting (codes "--generate" ++ 61 ∷ text)) refl
 
   joined_walked : (option : OptionName) (text : Text) → walked form [] here (spelling option ++ 61 ∷ text)
       ≡ walk_at false idle position (used (rule (part_of option)) (text ∷ []) (settled_in rows pending)) None
   unfolding walked
   joined_walked LimitOption text = rw (no_subcommand waiting (codes "--limit" ++ 61 ∷ text)) refl
+  joined_walked DegreeOption text = rw (no_subcommand waiting (codes "--degree" ++ 61 ∷ text)) refl
   joined_walked GenerateOption text = rw (no_subcommand waiting (codes "--generate" ++ 61 ∷ text)) refl
 
   -- an argument that isn't known
@@ -191,12 +196,14 @@ module _ (rows : List Row) (pending : Option (Text × List Text)) where
 -- the value of an option
 value_fault : (option : OptionName) (position : ℕ) (rows : List Row) (word : Text) → IsPlainWord word → turn_fault shape [] (walk_at false (awaits (id (part_of option))) position rows (Some (id (part_of option), []))) word ≡ []
 value_fault LimitOption position rows word p = rw (p.dashes, p.long, p.short) refl
+value_fault DegreeOption position rows word p = rw (p.dashes, p.long, p.short) refl
 value_fault GenerateOption position rows word p = rw (p.dashes, p.long, p.short) refl
 
 value_walked : (option : OptionName) (position : ℕ) (rows : List Row) (word : Text) → IsPlainWord word
     → walked form [] (walk_at false (awaits (id (part_of option))) position rows (Some (id (part_of option), []))) word ≡ walk_at false idle position rows (Some (id (part_of option), word ∷ []))
 unfolding walked
 value_walked LimitOption position rows word p = rw (p.dashes, p.long, p.short) refl
+value_walked DegreeOption position rows word p = rw (p.dashes, p.long, p.short) refl
 value_walked GenerateOption position rows word p = rw (p.dashes, p.long, p.short) refl
 
 -- ---- steps

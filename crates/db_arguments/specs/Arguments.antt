@@ -1,4 +1,4 @@
--- What the arguments of the command ask for: `ctxsql FILE [--limit N]` and `ctxsql --generate N`. Texts are lists of bytes, and `-` is the byte 45.
+-- What the arguments of the command ask for: `ctxsql FILE [--limit N] [--degree N]` and `ctxsql --generate N`. Texts are lists of bytes, and `-` is the byte 45.
 use Rattle.std.specs.Prelude.{ℕ, ◌≡◌, ◌≤◌, ◌^◌, ◌==◌, Bool, true, false, List, [], ◌∷◌, ◌++◌, length, codes, Option, Some, None, unwrap_or, refl}
 use Rattle.std.specs.Char.{is_ascii_digit}
 use Rattle.std.specs.List.{flat_map, list_all, AllByRecursion}
@@ -13,6 +13,13 @@ store_limit = 2 ^ 36
 abbrev pub least_limit : ℕ
 least_limit = 4096
 
+-- how many threads may be at work on a statement: the greatest degree that an option may give, and the degree where none gives one
+abbrev pub greatest_degree : ℕ
+greatest_degree = 16
+
+abbrev pub default_degree : ℕ
+default_degree = 1
+
 -- the most rows that a script may be generated for
 abbrev pub most_rows : ℕ
 most_rows = 100000
@@ -23,24 +30,28 @@ is_option_like [] = false
 is_option_like (b ∷ []) = false
 is_option_like (b ∷ c ∷ cs) = b == 45
 
--- what arguments may give: a FILE, the value of `--limit`, and that of `--generate`
+-- what arguments may give: a FILE, and the values of `--limit`, `--degree` and `--generate`
 pub data Part : Type 0 where
   File : Part
   Limit : Part
+  Degree : Part
   Rows : Part
 
--- the two options
+-- the options
 pub data OptionName : Type 0 where
   LimitOption : OptionName
+  DegreeOption : OptionName
   GenerateOption : OptionName
 
 abbrev pub spelling : OptionName → List ℕ
 spelling LimitOption = codes "--limit"
+spelling DegreeOption = codes "--degree"
 spelling GenerateOption = codes "--generate"
 
 -- the part that an option gives
 abbrev pub part_of : OptionName → Part
 part_of LimitOption = Limit
+part_of DegreeOption = Degree
 part_of GenerateOption = Rows
 
 -- what stands before a `--`, item by item
@@ -68,6 +79,7 @@ IsItem (Plain file) = is_option_like file ≡ false
 abbrev pub is_part : Part → Part → Bool
 is_part File File = true
 is_part Limit Limit = true
+is_part Degree Degree = true
 is_part Rows Rows = true
 is_part part other = false
 
@@ -88,13 +100,14 @@ after_items None = []
 after_items (Some others) = codes "--" ∷ others
 
 -- The arguments are items, and then perhaps a `--` and other arguments, each of which is a FILE. These are their FILEs, and these are the values that they give to the options.
-pub record Give (arguments files limits rows : List (List ℕ)) : Type 0 where
+pub record Give (arguments files limits degrees rows : List (List ℕ)) : Type 0 where
   pub items : List Item
   pub others : Option (List (List ℕ))
   pub are_items : AllByRecursion IsItem items
   pub spelt : arguments ≡ flat_map item_arguments items ++ after_items others
   pub files_are : flat_map (item_texts File) items ++ unwrap_or others [] ≡ files
   pub limits_are : flat_map (item_texts Limit) items ≡ limits
+  pub degrees_are : flat_map (item_texts Degree) items ≡ degrees
   pub rows_are : flat_map (item_texts Rows) items ≡ rows
 
 -- The value has 1 to 20 digits, and spells a number from `least` to `greatest`.
@@ -112,16 +125,28 @@ IsLimit [] limit = limit ≡ store_limit
 IsLimit (value ∷ []) limit = Spells least_limit store_limit value limit
 IsLimit (value ∷ another ∷ more) limit = ⊥
 
--- THE STORE: the arguments have one FILE, at most one limit, and no number of rows.
-pub record AsksFor (arguments : List (List ℕ)) (file : List ℕ) (limit : ℕ) : Type 0 where
+-- the degree where the option is given these values: at most one
+abbrev pub IsDegree : List (List ℕ) → ℕ → Type 0
+IsDegree [] degree = degree ≡ default_degree
+IsDegree (value ∷ []) degree = Spells 1 greatest_degree value degree
+IsDegree (value ∷ another ∷ more) degree = ⊥
+
+-- THE STORE: the arguments have one FILE, at most one limit and one degree, and no number of rows.
+pub record AsksForStore (arguments : List (List ℕ)) (file : List ℕ) (limit degree : ℕ) : Type 0 where
   pub limits : List (List ℕ)
-  pub give : Give arguments (file ∷ []) limits []
+  pub degrees : List (List ℕ)
+  pub give : Give arguments (file ∷ []) limits degrees []
   pub limited : IsLimit limits limit
+  pub parallel : IsDegree degrees degree
+
+-- the same, whatever the degree
+abbrev pub AsksFor : List (List ℕ) → List ℕ → ℕ → Type 0
+AsksFor arguments file limit = (degree : ℕ) × AsksForStore arguments file limit degree
 
 -- A GENERATED SCRIPT: the arguments have a number of rows, and nothing else.
 pub record AsksForRows (arguments : List (List ℕ)) (rows : ℕ) : Type 0 where
   pub value : List ℕ
-  pub give : Give arguments [] [] (value ∷ [])
+  pub give : Give arguments [] [] [] (value ∷ [])
   pub spells : Spells 1 most_rows value rows
 
 -- there is no store that the arguments ask for
@@ -135,19 +160,20 @@ AskForNothing arguments = AskForNoStore arguments × ((rows : ℕ) → AsksForRo
 -- ---- computed examples; what is refused stands in `laws/OneReading.antt`
 
 -- a FILE alone, which may be `-`
-pub file_alone : AsksFor (codes "a.db" ∷ []) (codes "a.db") 68719476736
-file_alone = record {
+alone : (file : List ℕ) → is_option_like file ≡ false → AsksForStore (file ∷ []) file 68719476736 1
+alone file plain = record {
   limits = [];
-  give = record { items = Plain (codes "a.db") ∷ []; others = None; are_items = (refl, tt); spelt = refl; files_are = refl; limits_are = refl; rows_are = refl };
+  degrees = [];
+  give = record { items = Plain file ∷ []; others = None; are_items = (plain, tt); spelt = refl; files_are = refl; limits_are = refl; degrees_are = refl; rows_are = refl };
   limited = refl;
+  parallel = refl;
 }
 
-dash_alone : AsksFor (codes "-" ∷ []) (codes "-") 68719476736
-dash_alone = record {
-  limits = [];
-  give = record { items = Plain (codes "-") ∷ []; others = None; are_items = (refl, tt); spelt = refl; files_are = refl; limits_are = refl; rows_are = refl };
-  limited = refl;
-}
+pub file_alone : AsksForStore (codes "a.db" ∷ []) (codes "a.db") 68719476736 1
+file_alone = alone (codes "a.db") refl
+
+dash_alone : AsksForStore (codes "-" ∷ []) (codes "-") 68719476736 1
+dash_alone = alone (codes "-") refl
 
 -- values with and without leading zeros, and the greatest limit
 five_thousand : Spells least_limit store_limit (codes "5000") 5000
@@ -160,27 +186,67 @@ greatest_limit : Spells least_limit store_limit (codes "68719476736") store_limi
 greatest_limit = record { digits = refl; not_empty = lit≤ tt; at_most_twenty = lit≤ tt; is = refl; at_least = lit≤ tt; at_most = lit≤ tt }
 
 -- the option before the FILE, with its value as the next argument
-value_spaced : AsksFor (codes "--limit" ∷ codes "5000" ∷ codes "a.db" ∷ []) (codes "a.db") 5000
+value_spaced : AsksForStore (codes "--limit" ∷ codes "5000" ∷ codes "a.db" ∷ []) (codes "a.db") 5000 1
 value_spaced = record {
   limits = codes "5000" ∷ [];
-  give = record { items = Spaced LimitOption (codes "5000") ∷ Plain (codes "a.db") ∷ []; others = None; are_items = (tt, (refl, tt)); spelt = refl; files_are = refl; limits_are = refl; rows_are = refl };
+  degrees = [];
+  give = record { items = Spaced LimitOption (codes "5000") ∷ Plain (codes "a.db") ∷ []; others = None; are_items = (tt, (refl, tt)); spelt = refl; files_are = refl; limits_are = refl; degrees_are = refl; rows_are = refl };
   limited = five_thousand;
+  parallel = refl;
 }
 
 -- the option after it, with its value after `=`
-value_joined : AsksFor (codes "a.db" ∷ codes "--limit=00000000000000004096" ∷ []) (codes "a.db") 4096
+value_joined : AsksForStore (codes "a.db" ∷ codes "--limit=00000000000000004096" ∷ []) (codes "a.db") 4096 1
 value_joined = record {
   limits = codes "00000000000000004096" ∷ [];
-  give = record { items = Plain (codes "a.db") ∷ Joined LimitOption (codes "00000000000000004096") ∷ []; others = None; are_items = (refl, (tt, tt)); spelt = refl; files_are = refl; limits_are = refl; rows_are = refl };
+  degrees = [];
+  give = record { items = Plain (codes "a.db") ∷ Joined LimitOption (codes "00000000000000004096") ∷ []; others = None; are_items = (refl, (tt, tt)); spelt = refl; files_are = refl; limits_are = refl; degrees_are = refl; rows_are = refl };
   limited = least_with_zeros;
+  parallel = refl;
 }
 
 -- a FILE that looks like an option, after a `--`
-after_dashes : AsksFor (codes "--limit=5000" ∷ codes "--" ∷ codes "--limit" ∷ []) (codes "--limit") 5000
+after_dashes : AsksForStore (codes "--limit=5000" ∷ codes "--" ∷ codes "--limit" ∷ []) (codes "--limit") 5000 1
 after_dashes = record {
   limits = codes "5000" ∷ [];
-  give = record { items = Joined LimitOption (codes "5000") ∷ []; others = Some (codes "--limit" ∷ []); are_items = (tt, tt); spelt = refl; files_are = refl; limits_are = refl; rows_are = refl };
+  degrees = [];
+  give = record { items = Joined LimitOption (codes "5000") ∷ []; others = Some (codes "--limit" ∷ []); are_items = (tt, tt); spelt = refl; files_are = refl; limits_are = refl; degrees_are = refl; rows_are = refl };
   limited = five_thousand;
+  parallel = refl;
+}
+
+-- a degree with both spellings, beside a limit and alone
+four_threads : Spells 1 greatest_degree (codes "4") 4
+four_threads = record { digits = refl; not_empty = lit≤ tt; at_most_twenty = lit≤ tt; is = refl; at_least = lit≤ tt; at_most = lit≤ tt }
+
+sixteen_threads : Spells 1 greatest_degree (codes "016") 16
+sixteen_threads = record { digits = refl; not_empty = lit≤ tt; at_most_twenty = lit≤ tt; is = refl; at_least = lit≤ tt; at_most = lit≤ tt }
+
+degree_spaced : AsksForStore (codes "--degree" ∷ codes "4" ∷ codes "--limit=5000" ∷ codes "a.db" ∷ []) (codes "a.db") 5000 4
+degree_spaced = record {
+  limits = codes "5000" ∷ [];
+  degrees = codes "4" ∷ [];
+  give = record {
+    items = Spaced DegreeOption (codes "4") ∷ Joined LimitOption (codes "5000") ∷ Plain (codes "a.db") ∷ [];
+    others = None;
+    are_items = (tt, (tt, (refl, tt)));
+    spelt = refl;
+    files_are = refl;
+    limits_are = refl;
+    degrees_are = refl;
+    rows_are = refl;
+  };
+  limited = five_thousand;
+  parallel = four_threads;
+}
+
+degree_joined : AsksForStore (codes "a.db" ∷ codes "--degree=016" ∷ []) (codes "a.db") 68719476736 16
+degree_joined = record {
+  limits = [];
+  degrees = codes "016" ∷ [];
+  give = record { items = Plain (codes "a.db") ∷ Joined DegreeOption (codes "016") ∷ []; others = None; are_items = (refl, (tt, tt)); spelt = refl; files_are = refl; limits_are = refl; degrees_are = refl; rows_are = refl };
+  limited = refl;
+  parallel = sixteen_threads;
 }
 
 -- a script of eight rows
@@ -190,6 +256,6 @@ eight = record { digits = refl; not_empty = lit≤ tt; at_most_twenty = lit≤ t
 rows_spaced : AsksForRows (codes "--generate" ∷ codes "8" ∷ codes "--" ∷ []) 8
 rows_spaced = record {
   value = codes "8";
-  give = record { items = Spaced GenerateOption (codes "8") ∷ []; others = Some []; are_items = (tt, tt); spelt = refl; files_are = refl; limits_are = refl; rows_are = refl };
+  give = record { items = Spaced GenerateOption (codes "8") ∷ []; others = Some []; are_items = (tt, tt); spelt = refl; files_are = refl; limits_are = refl; degrees_are = refl; rows_are = refl };
   spells = eight;
 }

@@ -14,6 +14,9 @@ option_arg name = record (new_rule name) { long = Some name; action = Some Set }
 abbrev pub limit_arg : Rule
 limit_arg = option_arg (codes "limit")
 
+abbrev pub degree_arg : Rule
+degree_arg = option_arg (codes "degree")
+
 abbrev pub generate_arg : Rule
 generate_arg = option_arg (codes "generate")
 
@@ -24,9 +27,9 @@ file_arg = new_rule (codes "file")
 abbrev pub bare : App
 bare = on_top (λ s. record s { no_binary_name = true; disable_help_flag = true }) (new_app (codes "ctxsql"))
 
--- two options and a FILE
+-- three options and a FILE
 abbrev pub app : App
-app = with_rule (with_rule (with_rule bare limit_arg) generate_arg) file_arg
+app = with_rule (with_rule (with_rule (with_rule bare limit_arg) degree_arg) generate_arg) file_arg
 
 -- computed examples: what is taken, a second FILE, an option twice, and help
 a_store : fault_of app (codes "--limit" ∷ codes "5000" ∷ codes "a.db" ∷ []) ≡ []

@@ -3,7 +3,7 @@ use Rattle.std.specs.Prelude.{ℕ, ◌≡◌, ◌==◌, List, [], ◌∷◌, cod
 use Rattle.std.specs.Bool.{if◌then◌else◌}
 use Rattle.std.specs.Option.{option_map}
 use Rattle.std.specs.Str.{bytes_eq}
-use Rattle.db_arguments.specs.Arguments.{Part, File, Limit, Rows, OptionName, LimitOption, GenerateOption, part_of, is_part, is_option_like}
+use Rattle.db_arguments.specs.Arguments.{Part, File, Limit, Degree, Rows, OptionName, LimitOption, DegreeOption, GenerateOption, part_of, is_part, is_option_like}
 use Rattle.db_arguments.specs.declared.parsing.Given.{Given}
 
 -- the text that was given to each part
@@ -49,8 +49,9 @@ joined_to option None other = other
 abbrev pub met_by : List ℕ → Option Met
 met_by argument =
     if bytes_eq argument (codes "--limit") then Some (LimitOption, None)
+    else (if bytes_eq argument (codes "--degree") then Some (DegreeOption, None)
     else (if bytes_eq argument (codes "--generate") then Some (GenerateOption, None)
-    else joined_to LimitOption (after_prefix (codes "--limit=") argument) (joined_to GenerateOption (after_prefix (codes "--generate=") argument) None))
+    else joined_to LimitOption (after_prefix (codes "--limit=") argument) (joined_to DegreeOption (after_prefix (codes "--degree=") argument) (joined_to GenerateOption (after_prefix (codes "--generate=") argument) None))))
 
 -- what was given, and what comes next
 abbrev pub Stage : Type 0
@@ -96,6 +97,7 @@ pub record IsGiven (arguments : List (List ℕ)) (given : Given) : Type 0 where
   pub are : all_given arguments ≡ Some values
   pub file : option_map (λ f. f.now) given.file ≡ values File
   pub limit : option_map (λ l. l.now) given.limit ≡ values Limit
+  pub degree : option_map (λ d. d.now) given.degree ≡ values Degree
   pub rows : option_map (λ r. r.now) given.rows ≡ values Rows
 
 abbrev pub AreGathered : List (List ℕ) → Option Given → Type 0
@@ -106,6 +108,9 @@ AreGathered arguments (Some given) = IsGiven arguments given
 
 option_then_file : option_and_then (λ (v : Values). v Limit) (all_given (codes "--limit" ∷ codes "4096" ∷ codes "a" ∷ [])) ≡ Some (codes "4096")
 option_then_file = refl
+
+two_options : option_and_then (λ (v : Values). v Degree) (all_given (codes "--degree=4" ∷ codes "a" ∷ codes "--limit" ∷ codes "4096" ∷ [])) ≡ Some (codes "4")
+two_options = refl
 
 no_dashes_after_dashes : option_and_then (λ (v : Values). v File) (all_given (codes "--" ∷ codes "--" ∷ [])) ≡ Some (codes "--")
 no_dashes_after_dashes = refl

@@ -6,6 +6,6 @@ mod laws;
 mod numbers;
 mod parsing;
 
-pub use arguments::{Asked, STORE_LIMIT, Store, file_of, read_arguments};
+pub use arguments::{Asked, DEFAULT_DEGREE, STORE_LIMIT, Store, file_of, read_arguments};
 pub use laws::one_reading;
-pub use numbers::{LEAST_LIMIT, MOST_ROWS};
+pub use numbers::{GREATEST_DEGREE, LEAST_LIMIT, MOST_ROWS};

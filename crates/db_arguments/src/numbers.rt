@@ -3,13 +3,16 @@
 ghost use Rattle.std.specs.Prelude.{◌≡◌, ◌<◌, ◌^◌};
 ghost use Rattle.std.specs.Char.{is_ascii_digit};
 ghost use Rattle.std.specs.List.{list_all};
-ghost use Rattle.db_arguments.specs.Arguments.{least_limit, most_rows, store_limit};
+ghost use Rattle.db_arguments.specs.Arguments.{greatest_degree, least_limit, most_rows, store_limit};
 ghost use Rattle.db_arguments.specs.Reading.{is_number, number_of};
 
 use crate::arguments::STORE_LIMIT;
 
 /// The least limit.
 pub const LEAST_LIMIT: u64 = 4096;
+
+/// The greatest degree.
+pub const GREATEST_DEGREE: u64 = 16;
 
 /// The most rows that a script may be generated for.
 pub const MOST_ROWS: u64 = 100_000;
@@ -50,6 +53,14 @@ pub(crate) fn limit_of(value: &str) -> Option<u64>
     ensures { result ≡ number_of least_limit store_limit value.now }
 {
     number_of(value, LEAST_LIMIT, STORE_LIMIT)
+}
+
+/// The degree that the value spells.
+pub(crate) fn degree_of(value: &str) -> Option<u32>
+    ensures { result ≡ number_of 1 greatest_degree value.now }
+{
+    let degree = number_of(value, 1, GREATEST_DEGREE)?;
+    Some(degree as u32)
 }
 
 /// The number of rows that the value spells.

@@ -16,6 +16,7 @@ use std::alloc::Global;
 pub(crate) struct Given<'a> {
     pub(crate) file: Option<&'a str>,
     pub(crate) limit: Option<&'a str>,
+    pub(crate) degree: Option<&'a str>,
     pub(crate) rows: Option<&'a str>,
 }
 
@@ -27,7 +28,7 @@ fn option<'a>(alloc: Global, name: &'a str) -> Arg<'a>
     Arg::new(alloc, name).long(name).action(ArgAction::Set)
 }
 
-/// Matches the words of the arguments with the command's form: two options, each at most once with one value, and a FILE. The command has no help of
+/// Matches the words of the arguments with the command's form: three options, each at most once with one value, and a FILE. The command has no help of
 /// its own, so `--help` is no option.
 fn matches<'a>(alloc: Global, words: &'a [String]) -> Result<ArgMatches<'a>, Error>
     ensures taken { IfOk result (λ m. (fault_of app (map string_bytes words.now) ≡ []) × (rows_of (found_of m) ≡ matches_of app (map string_bytes words.now))) }
@@ -37,6 +38,7 @@ fn matches<'a>(alloc: Global, words: &'a [String]) -> Result<ArgMatches<'a>, Err
         .no_binary_name(true)
         .disable_help_flag(true)
         .arg(option(alloc, "limit"))?
+        .arg(option(alloc, "degree"))?
         .arg(option(alloc, "generate"))?
         .arg(Arg::new(alloc, "file"))?;
     command.try_get_matches_from(words)
@@ -50,8 +52,14 @@ pub(crate) fn parse<'a>(alloc: Global, arguments: &'a [String]) -> Result<Option
         Ok(matches) => {
             let file = matches.get_str("file");
             let limit = matches.get_str("limit");
+            let degree = matches.get_str("degree");
             let rows = matches.get_str("generate");
-            Ok(Some(Given { file, limit, rows }))
+            Ok(Some(Given {
+                file,
+                limit,
+                degree,
+                rows,
+            }))
         }
         Err(error) => match error.kind() {
             ErrorKind::OutOfMemory => Err(Memory),

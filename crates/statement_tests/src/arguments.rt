@@ -6,27 +6,39 @@ use std::alloc::Global;
 
 const LARGEST: u64 = 68_719_476_736;
 
-/// The arguments, and what they ask for: a FILE with a limit, or none with a number of rows, or nothing.
+/// The arguments, and what they ask for: a FILE with a limit and a degree, or none with a number of rows, or nothing.
 type Row = (
     &'static [&'static str],
-    Option<(&'static str, u64)>,
+    Option<(&'static str, u64, u32)>,
     Option<u32>,
 );
 
 const ROWS: &[Row] = &[
     // one FILE
-    (&["a.db"], Some(("a.db", LARGEST)), None),
-    (&["-"], Some(("-", LARGEST)), None),
-    (&[""], Some(("", LARGEST)), None),
-    (&["--", "--"], Some(("--", LARGEST)), None),
+    (&["a.db"], Some(("a.db", LARGEST, 1)), None),
+    (&["-"], Some(("-", LARGEST, 1)), None),
+    (&[""], Some(("", LARGEST, 1)), None),
+    (&["--", "--"], Some(("--", LARGEST, 1)), None),
     // the limit
-    (&["--limit", "4096", "a.db"], Some(("a.db", 4096)), None),
-    (&["ä", "--limit=68719476736"], Some(("ä", LARGEST)), None),
+    (&["--limit", "4096", "a.db"], Some(("a.db", 4096, 1)), None),
+    (&["ä", "--limit=68719476736"], Some(("ä", LARGEST, 1)), None),
     (
         &["--limit=00000000000000005000", "--", "--limit"],
-        Some(("--limit", 5000)),
+        Some(("--limit", 5000, 1)),
         None,
     ),
+    // the degree
+    (
+        &["--degree", "16", "a.db"],
+        Some(("a.db", LARGEST, 16)),
+        None,
+    ),
+    (
+        &["a.db", "--degree=04", "--limit=4096"],
+        Some(("a.db", 4096, 4)),
+        None,
+    ),
+    (&["--", "--degree"], Some(("--degree", LARGEST, 1)), None),
     // rows
     (&["--generate", "8"], None, Some(8)),
     (
@@ -34,7 +46,11 @@ const ROWS: &[Row] = &[
         None,
         Some(100_000),
     ),
-    (&["--", "--generate"], Some(("--generate", LARGEST)), None),
+    (
+        &["--", "--generate"],
+        Some(("--generate", LARGEST, 1)),
+        None,
+    ),
     // no FILE, or two
     (&[], None, None),
     (&["--"], None, None),
@@ -64,9 +80,18 @@ const ROWS: &[Row] = &[
     (&["--limit=68719476737", "a"], None, None),
     (&["--limit=18446744073709556616", "a"], None, None),
     (&["--limit=000000000000000005000", "a"], None, None),
-    // rows beside a FILE or a limit, none, and too many
+    // values that are no degree, and a degree twice
+    (&["a", "--degree"], None, None),
+    (&["a", "--degree=0"], None, None),
+    (&["a", "--degree=17"], None, None),
+    (&["a", "--degree=four"], None, None),
+    (&["--degree", "--limit=5000", "a"], None, None),
+    (&["--degree=4", "a", "--degree=4"], None, None),
+    (&["--degree=4"], None, None),
+    // rows beside a FILE, a limit or a degree, none, and too many
     (&["--generate=8", "a"], None, None),
     (&["--generate=8", "--limit=5000"], None, None),
+    (&["--degree=4", "--generate=8"], None, None),
     (&["--generate=0"], None, None),
     (&["--generate=100001"], None, None),
     (&["--generate"], None, None),
@@ -80,10 +105,14 @@ fn owned(alloc: Global, texts: &[&str]) -> Result<Vec<String>, Memory> {
     Ok(all)
 }
 
-/// What is asked for by a FILE with a limit, or by a number of rows.
-fn asked<'a>(store: Option<(&'a str, u64)>, rows: Option<u32>) -> Option<Asked<'a>> {
+/// What is asked for by a FILE with a limit and a degree, or by a number of rows.
+fn asked<'a>(store: Option<(&'a str, u64, u32)>, rows: Option<u32>) -> Option<Asked<'a>> {
     match store {
-        Some((file, limit)) => Some(Asked::Over(Store { file, limit })),
+        Some((file, limit, degree)) => Some(Asked::Over(Store {
+            file,
+            limit,
+            degree,
+        })),
         None => match rows {
             Some(rows) => Some(Asked::Rows(rows)),
             None => None,
@@ -95,7 +124,7 @@ fn asked<'a>(store: Option<(&'a str, u64)>, rows: Option<u32>) -> Option<Asked<'
 fn ask_for(
     alloc: Global,
     arguments: &[String],
-    store: Option<(&str, u64)>,
+    store: Option<(&str, u64, u32)>,
     rows: Option<u32>,
 ) -> Result<bool, Memory> {
     let read = read_arguments(alloc, arguments)? == asked(store, rows);

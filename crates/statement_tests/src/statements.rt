@@ -134,8 +134,21 @@ const FORMS: &[(&str, Option<&str>)] = &[
     ),
     (
         "CREATE INDEX i ON t(c) INDEXTYPE IS CONTEXT PARALLEL 2",
+        Some("create index"),
+    ),
+    (
+        "CREATE INDEX i ON t(c) INDEXTYPE IS CTXRULE PARAMETERS ('') PARALLEL 0",
+        Some("create index"),
+    ),
+    (
+        "CREATE INDEX i ON t(c) INDEXTYPE IS CONTEXT PARALLEL 2 PARAMETERS ('')",
         None,
     ),
+    (
+        "CREATE INDEX i ON t(c) INDEXTYPE IS CONTEXT PARALLEL -2",
+        None,
+    ),
+    ("CREATE INDEX i ON t(c) INDEXTYPE IS CONTEXT PARALLEL", None),
     ("CREATE INDEX i ON t(c, d) INDEXTYPE IS CONTEXT", None),
     ("CREATE INDEX i ON t(c)", None),
     ("SELECT id FROM t WHERE a>=1AND b<=-12", Some("select")),
@@ -321,7 +334,10 @@ const CALLS: &[(&str, Option<&str>)] = &[
     ("EXEC ctx_ddl.sync_index('i', i)", None),
     ("EXEC ctx_ddl.sync_index('i', NULL)", None),
     ("EXEC ctx_ddl.sync_index", None),
-    ("EXEC ctx_ddl.optimize_index('i', 'FULL')", None),
+    ("EXEC ctx_ddl.optimize_index('i', 'FULL')", Some("exec")),
+    ("EXECUTE Ctx_Ddl.Optimize_Index('i', 'FULL', 1000)", Some("exec")),
+    ("EXEC ctx_ddl.optimize_index('i', FULL)", None),
+    ("EXEC ctx_doc.optimize_index('i', 'FULL')", None),
     ("EXECUTE ctx_doc.policy_tokens('a', 'b')", Some("exec")),
     (
         "EXEC ctx_ddl.add_field_section('g', 't', 'T', TRUE)",

@@ -8,9 +8,9 @@ use Rattle.std.specs.Str.Parse.{digits_value}
 use Rattle.std.proofs.Common.{sym, ap, ◌∙◌, subst, arith, append-nil, true≢false, ne_eqb}
 use Rattle.std.proofs.lemmas.Bool.{and_from, and_parts, le-leb, leb-true, cond-true}
 use Rattle.std.proofs.lemmas.Option.{none-some}
-use Rattle.db_arguments.specs.Arguments.{Part, File, Limit, Rows, OptionName, LimitOption, GenerateOption, spelling, part_of, is_part, if_part, Item, Spaced, Joined, Plain, item_arguments, item_texts, IsItem, after_items, Give, IsLimit, Spells, AskForNothing, least_limit, store_limit, most_rows, is_option_like}
+use Rattle.db_arguments.specs.Arguments.{Part, File, Limit, Degree, Rows, OptionName, LimitOption, DegreeOption, GenerateOption, spelling, part_of, is_part, if_part, Item, Spaced, Joined, Plain, item_arguments, item_texts, IsItem, after_items, Give, IsLimit, IsDegree, Spells, AskForNothing, least_limit, store_limit, greatest_degree, most_rows, is_option_like}
 use Rattle.db_arguments.specs.Gathering.{Values, Next, Any, Value, Trailing, Stage, nothing_given, with_text, put, stage_by, gather, gathers, all_given}
-use Rattle.db_arguments.specs.Reading.{Wanted, Store, Script, AskFor, number_of, is_number, is_in_range, wanted}
+use Rattle.db_arguments.specs.Reading.{Wanted, Store, Script, AskFor, number_of, is_number, is_in_range, limit_by, degree_by, wanted}
 use Rattle.db_arguments.specs.Promises.{OneReading}
 
 -- ---- numbers
@@ -43,6 +43,7 @@ digits_are_value (b ∷ c ∷ cs) digits =
 abbrev pub others_for : Part → Option (List (List ℕ)) → List (List ℕ)
 others_for File others = unwrap_or others []
 others_for Limit others = []
+others_for Degree others = []
 others_for Rows others = []
 
 -- what was given to each part, and what these items and other arguments give to it, are these texts
@@ -81,23 +82,32 @@ module _ (v : Values) (text : List ℕ) (r s texts : Part → List (List ℕ)) w
   none_before : (part : Part) → Before part → AtMostOne texts → v part ≡ None
   none_before File h few = one_only (v File) text (r File ++ s File) (texts File) (h File) (few File)
   none_before Limit h few = one_only (v Limit) text (r Limit ++ s Limit) (texts Limit) (h Limit) (few Limit)
+  none_before Degree h few = one_only (v Degree) text (r Degree ++ s Degree) (texts Degree) (h Degree) (few Degree)
   none_before Rows h few = one_only (v Rows) text (r Rows ++ s Rows) (texts Rows) (h Rows) (few Rows)
 
   -- the text is the first one of its part
   first_text : (part : Part) → Before part → v part ≡ None → text ∷ (r part ++ s part) ≡ texts part
   first_text File h none = subst (λ (o : Option (List ℕ)). option_to_list o ++ text ∷ (r File ++ s File) ≡ texts File) none (h File)
   first_text Limit h none = subst (λ (o : Option (List ℕ)). option_to_list o ++ text ∷ (r Limit ++ s Limit) ≡ texts Limit) none (h Limit)
+  first_text Degree h none = subst (λ (o : Option (List ℕ)). option_to_list o ++ text ∷ (r Degree ++ s Degree) ≡ texts Degree) none (h Degree)
   first_text Rows h none = subst (λ (o : Option (List ℕ)). option_to_list o ++ text ∷ (r Rows ++ s Rows) ≡ texts Rows) none (h Rows)
 
   put_after : (part : Part) → Before part → v part ≡ None → After part
   put_after File h none File = first_text File h none
   put_after File h none Limit = h Limit
+  put_after File h none Degree = h Degree
   put_after File h none Rows = h Rows
   put_after Limit h none File = h File
+  put_after Degree h none File = h File
   put_after Limit h none Limit = first_text Limit h none
+  put_after Degree h none Degree = first_text Degree h none
   put_after Limit h none Rows = h Rows
+  put_after Degree h none Rows = h Rows
+  put_after Limit h none Degree = h Degree
   put_after Rows h none File = h File
   put_after Rows h none Limit = h Limit
+  put_after Rows h none Degree = h Degree
+  put_after Degree h none Limit = h Limit
   put_after Rows h none Rows = first_text Rows h none
 
 -- one argument, and then the others
@@ -119,10 +129,12 @@ trailing_step v file none = ap (stage_by Trailing) (put_is v File file none)
 
 option_step : (v : Values) (option : OptionName) → gather v Any (spelling option) ≡ Some (v, Value option)
 option_step v LimitOption = refl
+option_step v DegreeOption = refl
 option_step v GenerateOption = refl
 
 joined_step : (v : Values) (option : OptionName) (value : List ℕ) → v (part_of option) ≡ None → gather v Any (spelling option ++ 61 ∷ value) ≡ Some (with_text v (part_of option) value, Any)
 joined_step v LimitOption value none = ap (stage_by Any) (put_is v Limit value none)
+joined_step v DegreeOption value none = ap (stage_by Any) (put_is v Degree value none)
 joined_step v GenerateOption value none = ap (stage_by Any) (put_is v Rows value none)
 
 -- ---- all arguments
@@ -135,11 +147,13 @@ HaveValues texts = (option : OptionName) → AllByRecursion IsValue (texts (part
 abbrev each_file : List (List ℕ) → Part → List (List ℕ)
 each_file files File = files
 each_file files Limit = []
+each_file files Degree = []
 each_file files Rows = []
 
 file_first : (file : List ℕ) (others : List (List ℕ)) (part : Part) → others_for part (Some (file ∷ others)) ≡ (if_part (is_part part File) file ++ others_for part (Some others)) ++ []
 file_first file others File = sym (append-nil (file ∷ others))
 file_first file others Limit = refl
+file_first file others Degree = refl
 file_first file others Rows = refl
 
 others_are_read : (others : List (List ℕ)) (v : Values) (texts : Part → List (List ℕ))
@@ -149,6 +163,7 @@ others_are_read [] v texts h few = record { values = v; are = refl; have = nothi
     nothing_more : AreTexts v texts
     nothing_more File = sym (append-nil (option_to_list (v File))) ∙ h File
     nothing_more Limit = sym (append-nil (option_to_list (v Limit))) ∙ h Limit
+    nothing_more Degree = sym (append-nil (option_to_list (v Degree))) ∙ h Degree
     nothing_more Rows = sym (append-nil (option_to_list (v Rows))) ∙ h Rows
 others_are_read (file ∷ others) v texts h few =
     let r = λ (p : Part). others_for p (Some others) in
@@ -167,6 +182,7 @@ items_are_read [] None v texts are h few values = record { values = v; are = ref
     nothing_more : AreTexts v texts
     nothing_more File = sym (append-nil (option_to_list (v File))) ∙ h File
     nothing_more Limit = sym (append-nil (option_to_list (v Limit))) ∙ h Limit
+    nothing_more Degree = sym (append-nil (option_to_list (v Degree))) ∙ h Degree
     nothing_more Rows = sym (append-nil (option_to_list (v Rows))) ∙ h Rows
 items_are_read [] (Some others) v texts are h few values =
     gathers_then v Any (codes "--") others (v, Trailing) texts refl (others_are_read others v texts h few)
@@ -192,123 +208,142 @@ items_are_read (Joined option value ∷ items) others v texts are h few values =
     gathers_then v Any (spelling option ++ 61 ∷ value) (flat_map item_arguments items ++ after_items others) (with_text v (part_of option) value, Any) texts (joined_step v option value none)
     (items_are_read items others (with_text v (part_of option) value) texts are.1 (put_after v value r s texts (part_of option) h none) few values)
 
--- the texts of the three parts
-abbrev pub texts_by : List (List ℕ) → List (List ℕ) → List (List ℕ) → Part → List (List ℕ)
-texts_by files limits rows File = files
-texts_by files limits rows Limit = limits
-texts_by files limits rows Rows = rows
+-- the texts of the parts
+abbrev pub texts_by : List (List ℕ) → List (List ℕ) → List (List ℕ) → List (List ℕ) → Part → List (List ℕ)
+texts_by files limits degrees rows File = files
+texts_by files limits degrees rows Limit = limits
+texts_by files limits degrees rows Degree = degrees
+texts_by files limits degrees rows Rows = rows
 
-given_adds : (arguments files limits rows : List (List ℕ)) (g : Give arguments files limits rows) → Adds nothing_given g.items g.others (texts_by files limits rows)
-given_adds arguments files limits rows g File = g.files_are
-given_adds arguments files limits rows g Limit = append-nil (flat_map (item_texts Limit) g.items) ∙ g.limits_are
-given_adds arguments files limits rows g Rows = append-nil (flat_map (item_texts Rows) g.items) ∙ g.rows_are
+given_adds : (arguments files limits degrees rows : List (List ℕ)) (g : Give arguments files limits degrees rows) → Adds nothing_given g.items g.others (texts_by files limits degrees rows)
+given_adds arguments files limits degrees rows g File = g.files_are
+given_adds arguments files limits degrees rows g Limit = append-nil (flat_map (item_texts Limit) g.items) ∙ g.limits_are
+given_adds arguments files limits degrees rows g Degree = append-nil (flat_map (item_texts Degree) g.items) ∙ g.degrees_are
+given_adds arguments files limits degrees rows g Rows = append-nil (flat_map (item_texts Rows) g.items) ∙ g.rows_are
 
 -- what arguments give is read, where no part has two texts, and values of options look like no option
-pub given_is_read : (arguments files limits rows : List (List ℕ)) → Give arguments files limits rows → AtMostOne (texts_by files limits rows) → HaveValues (texts_by files limits rows)
-    → Gathers nothing_given Any arguments (texts_by files limits rows)
-given_is_read arguments files limits rows g few values =
-    let read = items_are_read g.items g.others nothing_given (texts_by files limits rows) g.are_items (given_adds arguments files limits rows g) few values in
+pub given_is_read : (arguments files limits degrees rows : List (List ℕ)) → Give arguments files limits degrees rows → AtMostOne (texts_by files limits degrees rows) → HaveValues (texts_by files limits degrees rows)
+    → Gathers nothing_given Any arguments (texts_by files limits degrees rows)
+given_is_read arguments files limits degrees rows g few values =
+    let read = items_are_read g.items g.others nothing_given (texts_by files limits degrees rows) g.are_items (given_adds arguments files limits degrees rows g) few values in
     record { values = read.values; are = ap (gathers nothing_given Any) g.spelt ∙ read.are; have = read.have }
 
 -- ---- what is asked for
 
 -- what is asked for by what was given
 abbrev pub wanted_of : Values → Option Wanted
-wanted_of v = wanted (v File) (v Limit) (v Rows)
+wanted_of v = wanted (v File) (v Limit) (v Degree) (v Rows)
 
 -- what arguments ask for is what is read from them
 abbrev pub IsRead : List (List ℕ) → Wanted → Type 0
 IsRead arguments w = option_and_then wanted_of (all_given arguments) ≡ Some w
 
-none_given : (o : Option (List ℕ)) → option_to_list o ≡ [] → o ≡ None
-none_given None is = refl
-none_given (Some text) is = cc
+same_given : (o p : Option (List ℕ)) → option_to_list o ≡ option_to_list p → o ≡ p
+same_given None None is = refl
+same_given None (Some text) is = cc
+same_given (Some text) None is = cc
+same_given (Some text) (Some other) is = cc
 
-one_given : (o : Option (List ℕ)) (text : List ℕ) → option_to_list o ≡ text ∷ [] → o ≡ Some text
-one_given None text is = cc
-one_given (Some other) text is = cc
+read_by : (arguments : List (List ℕ)) (v : Values) (w : Wanted) (file limit degree rows : Option (List ℕ))
+    → all_given arguments ≡ Some v → v File ≡ file → v Limit ≡ limit → v Degree ≡ degree → v Rows ≡ rows → wanted file limit degree rows ≡ Some w → IsRead arguments w
+read_by arguments v w file limit degree rows are f l d r is = ap (option_and_then wanted_of) are ∙ rw (f, l, d, r) is
 
-read_by : (arguments : List (List ℕ)) (v : Values) (w : Wanted) (file limit rows : Option (List ℕ))
-    → all_given arguments ≡ Some v → v File ≡ file → v Limit ≡ limit → v Rows ≡ rows → wanted file limit rows ≡ Some w → IsRead arguments w
-read_by arguments v w file limit rows are f l r is = ap (option_and_then wanted_of) are ∙ rw (f, l, r) is
+-- The texts of an option are at most one value, which is read as this number.
+pub record IsReadAs (read : Option (List ℕ) → Option ℕ) (texts : List (List ℕ)) (number : ℕ) : Type 0 where
+  pub given : Option (List ℕ)
+  pub are : texts ≡ option_to_list given
+  pub few : length texts ≤ 1
+  pub values : AllByRecursion IsValue texts
+  pub is : read given ≡ Some number
 
--- a store, by the values of the limit
-store_is_read : (arguments : List (List ℕ)) (file : List ℕ) (limits : List (List ℕ)) (limit : ℕ) → Give arguments (file ∷ []) limits [] → IsLimit limits limit → IsRead arguments (Store file limit)
-store_is_read arguments file [] limit g is =
-    let read = given_is_read arguments (file ∷ []) [] [] g few values in
-    read_by arguments read.values (Store file limit) (Some file) None None read.are (one_given _ file (read.have File)) (none_given _ (read.have Limit)) (none_given _ (read.have Rows))
-    (ap (λ (n : ℕ). Some (Store file n)) (sym is))
+limit_is_read : (limits : List (List ℕ)) (limit : ℕ) → IsLimit limits limit → IsReadAs limit_by limits limit
+limit_is_read [] limit is = record { given = None; are = refl; few = omega arith; values = tt; is = ap Some (sym is) }
+limit_is_read (value ∷ []) limit is =
+    record { given = Some value; are = refl; few = omega arith; values = (digits_are_value value is.digits, tt); is = spelt_is_read least_limit store_limit value limit is }
+limit_is_read (value ∷ another ∷ more) limit is = absurd is
+
+degree_is_read : (degrees : List (List ℕ)) (degree : ℕ) → IsDegree degrees degree → IsReadAs degree_by degrees degree
+degree_is_read [] degree is = record { given = None; are = refl; few = omega arith; values = tt; is = ap Some (sym is) }
+degree_is_read (value ∷ []) degree is =
+    record { given = Some value; are = refl; few = omega arith; values = (digits_are_value value is.digits, tt); is = spelt_is_read 1 greatest_degree value degree is }
+degree_is_read (value ∷ another ∷ more) degree is = absurd is
+
+-- a store, by the values of the limit and of the degree
+store_is_read : (arguments : List (List ℕ)) (file : List ℕ) (limits degrees : List (List ℕ)) (limit degree : ℕ) → Give arguments (file ∷ []) limits degrees []
+    → IsReadAs limit_by limits limit → IsReadAs degree_by degrees degree → IsRead arguments (Store file limit degree)
+store_is_read arguments file limits degrees limit degree g l d =
+    let read = given_is_read arguments (file ∷ []) limits degrees [] g few values in
+    read_by arguments read.values (Store file limit degree) (Some file) l.given d.given None read.are
+    (same_given _ (Some file) (read.have File)) (same_given _ l.given (read.have Limit ∙ l.are)) (same_given _ d.given (read.have Degree ∙ d.are)) (same_given _ None (read.have Rows))
+    (ap (option_and_then (λ (n : ℕ). option_map (Store file n) (degree_by d.given))) l.is ∙ ap (option_map (Store file limit)) d.is)
   where
-    few : AtMostOne (texts_by (file ∷ []) [] [])
+    few : AtMostOne (texts_by (file ∷ []) limits degrees [])
     few File = omega arith
-    few Limit = omega arith
+    few Limit = l.few
+    few Degree = d.few
     few Rows = omega arith
 
-    values : HaveValues (texts_by (file ∷ []) [] [])
-    values LimitOption = tt
+    values : HaveValues (texts_by (file ∷ []) limits degrees [])
+    values LimitOption = l.values
+    values DegreeOption = d.values
     values GenerateOption = tt
-store_is_read arguments file (value ∷ []) limit g is =
-    let read = given_is_read arguments (file ∷ []) (value ∷ []) [] g few values in
-    read_by arguments read.values (Store file limit) (Some file) (Some value) None read.are (one_given _ file (read.have File)) (one_given _ value (read.have Limit)) (none_given _ (read.have Rows))
-    (ap (option_map (Store file)) (spelt_is_read least_limit store_limit value limit is))
-  where
-    few : AtMostOne (texts_by (file ∷ []) (value ∷ []) [])
-    few File = omega arith
-    few Limit = omega arith
-    few Rows = omega arith
 
-    values : HaveValues (texts_by (file ∷ []) (value ∷ []) [])
-    values LimitOption = (digits_are_value value is.digits, tt)
-    values GenerateOption = tt
-store_is_read arguments file (value ∷ another ∷ more) limit g is = absurd is
-
-rows_are_read : (arguments : List (List ℕ)) (value : List ℕ) (rows : ℕ) → Give arguments [] [] (value ∷ []) → Spells 1 most_rows value rows → IsRead arguments (Script rows)
+rows_are_read : (arguments : List (List ℕ)) (value : List ℕ) (rows : ℕ) → Give arguments [] [] [] (value ∷ []) → Spells 1 most_rows value rows → IsRead arguments (Script rows)
 rows_are_read arguments value rows g is =
-    let read = given_is_read arguments [] [] (value ∷ []) g few values in
-    read_by arguments read.values (Script rows) None None (Some value) read.are (none_given _ (read.have File)) (none_given _ (read.have Limit)) (one_given _ value (read.have Rows))
+    let read = given_is_read arguments [] [] [] (value ∷ []) g few values in
+    read_by arguments read.values (Script rows) None None None (Some value) read.are
+    (same_given _ None (read.have File)) (same_given _ None (read.have Limit)) (same_given _ None (read.have Degree)) (same_given _ (Some value) (read.have Rows))
     (ap (option_map Script) (spelt_is_read 1 most_rows value rows is))
   where
-    few : AtMostOne (texts_by [] [] (value ∷ []))
+    few : AtMostOne (texts_by [] [] [] (value ∷ []))
     few File = omega arith
     few Limit = omega arith
+    few Degree = omega arith
     few Rows = omega arith
 
-    values : HaveValues (texts_by [] [] (value ∷ []))
+    values : HaveValues (texts_by [] [] [] (value ∷ []))
     values LimitOption = tt
+    values DegreeOption = tt
     values GenerateOption = (digits_are_value value is.digits, tt)
 
 pub asked_is_read : (arguments : List (List ℕ)) (w : Wanted) → AskFor arguments w → IsRead arguments w
-asked_is_read arguments (Store file limit) asks = store_is_read arguments file asks.limits limit asks.give asks.limited
+asked_is_read arguments (Store file limit degree) asks =
+    store_is_read arguments file asks.limits asks.degrees limit degree asks.give (limit_is_read asks.limits limit asks.limited) (degree_is_read asks.degrees degree asks.parallel)
 asked_is_read arguments (Script rows) asks = rows_are_read arguments asks.value rows asks.give asks.spells
 
 same_wanted : (arguments : List (List ℕ)) (w u : Wanted) → AskFor arguments w → AskFor arguments u → w ≡ u
 same_wanted arguments w u asks too = let e : ◌≡◌ {A = Option Wanted} (Some w) (Some u) = sym (asked_is_read arguments w asks) ∙ asked_is_read arguments u too in cc
 
 abbrev file_in : Wanted → List ℕ
-file_in (Store file limit) = file
+file_in (Store file limit degree) = file
 file_in (Script rows) = []
 
 abbrev number_in : Wanted → ℕ
-number_in (Store file limit) = limit
+number_in (Store file limit degree) = limit
 number_in (Script rows) = rows
 
+abbrev degree_in : Wanted → ℕ
+degree_in (Store file limit degree) = degree
+degree_in (Script rows) = 0
+
 abbrev is_store : Wanted → Bool
-is_store (Store file limit) = true
+is_store (Store file limit degree) = true
 is_store (Script rows) = false
 
 pub one_reading : OneReading
 one_reading = record {
   one_store = λ arguments file another limit other asks too.
-      let e = same_wanted arguments (Store file limit) (Store another other) asks too in (ap file_in e, ap number_in e);
+      let e = same_wanted arguments (Store file limit asks.0) (Store another other too.0) asks.1 too.1 in (ap file_in e, ap number_in e);
+  one_degree = λ arguments file another limit other degree more asks too. ap degree_in (same_wanted arguments (Store file limit degree) (Store another other more) asks too);
   one_number = λ arguments rows others asks too. ap number_in (same_wanted arguments (Script rows) (Script others) asks too);
-  not_both = λ arguments file limit rows asks too. true≢false (ap is_store (same_wanted arguments (Store file limit) (Script rows) asks too));
+  not_both = λ arguments file limit rows asks too. true≢false (ap is_store (same_wanted arguments (Store file limit asks.0) (Script rows) asks.1 too));
 }
 
 -- ---- what is refused
 
 pub refused : (arguments : List (List ℕ)) → option_and_then wanted_of (all_given arguments) ≡ None → AskForNothing arguments
 refused arguments none =
-    (λ file limit asks. none-some (Store file limit) (sym none ∙ asked_is_read arguments (Store file limit) asks), λ rows asks. none-some (Script rows) (sym none ∙ asked_is_read arguments (Script rows) asks))
+    (λ file limit asks. none-some (Store file limit asks.0) (sym none ∙ asked_is_read arguments (Store file limit asks.0) asks.1), λ rows asks. none-some (Script rows) (sym none ∙ asked_is_read arguments (Script rows) asks))
 
 -- computed examples: no FILE, or two of them
 no_file : AskForNothing (codes "--limit=5000" ∷ codes "--" ∷ [])
@@ -340,12 +375,25 @@ small_limit = refused _ refl
 large_limit : AskForNothing (codes "--limit=68719476737" ∷ codes "a" ∷ [])
 large_limit = refused _ refl
 
--- a number of rows beside a FILE or a limit, and numbers of rows that are too small or too large
+-- numbers that are no degree, and a degree twice
+no_threads : AskForNothing (codes "a" ∷ codes "--degree=0" ∷ [])
+no_threads = refused _ refl
+
+many_threads : AskForNothing (codes "--degree" ∷ codes "17" ∷ codes "a" ∷ [])
+many_threads = refused _ refl
+
+degree_twice : AskForNothing (codes "--degree=4" ∷ codes "a" ∷ codes "--degree=4" ∷ [])
+degree_twice = refused _ refl
+
+-- a number of rows beside a FILE, a limit or a degree, and numbers of rows that are too small or too large
 rows_with_file : AskForNothing (codes "--generate=8" ∷ codes "a" ∷ [])
 rows_with_file = refused _ refl
 
 rows_with_limit : AskForNothing (codes "--generate=8" ∷ codes "--limit=5000" ∷ [])
 rows_with_limit = refused _ refl
+
+rows_with_degree : AskForNothing (codes "--generate=8" ∷ codes "--degree" ∷ codes "1" ∷ [])
+rows_with_degree = refused _ refl
 
 no_rows : AskForNothing (codes "--generate=0" ∷ [])
 no_rows = refused _ refl

@@ -3,7 +3,7 @@ use Rattle.std.specs.List.{AllByRecursion}
 use Rattle.std.specs.String.{string_bytes}
 use Rattle.clap.specs.Words.{found_of, rows_of}
 use Rattle.clap.proofs.WalkLemmas.{first_value-rows}
-use Rattle.db_arguments.specs.Arguments.{File, Limit, Rows}
+use Rattle.db_arguments.specs.Arguments.{File, Limit, Degree, Rows}
 use Rattle.db_arguments.proofs.Form.{IsSpelt}
 use Rattle.db_arguments.proofs.Parsed.{all_spelt, not_memory, spelt_by, taken}
 use Rattle.db_arguments.proofs.parsing.parse.Goals as goal
@@ -19,6 +19,7 @@ returns-in-Ok c =
       are = t.are;
       file = c.get_str-file.ensures ∙ first_value-rows found _ ∙ t.have File;
       limit = c.get_str-limit.ensures ∙ first_value-rows found _ ∙ t.have Limit;
+      degree = c.get_str-degree.ensures ∙ first_value-rows found _ ∙ t.have Degree;
       rows = c.get_str-rows.ensures ∙ first_value-rows found _ ∙ t.have Rows;
     }
 
