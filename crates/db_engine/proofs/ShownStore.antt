@@ -25,6 +25,7 @@ use Rattle.ct_entry.specs.Keys.{key, at, same_list, row_part, document_part, IsR
 use Rattle.ct_entry.specs.Maps.{Names, Rows, altered}
 use Rattle.ct_entry.specs.Changes.{KeyChange, spell, put_value, drop_key}
 use Rattle.ct_entry.specs.Listings.{key_order, keys_where}
+use Rattle.ct_entry.specs.laws.Changes.{at-after}
 use Rattle.ct_entry.specs.laws.Owners.{key_order_total}
 use Rattle.tb_table.specs.Tables.{Table, Tables, docs_columns, row_in, row_at, text_in_column, with_table, with_row}
 use Rattle.tb_table.specs.Spelling.{table_changes}
@@ -39,7 +40,7 @@ use Rattle.tx_settings.specs.PrefsBytes.{IsPrefs}
 use Rattle.ix_rows.specs.Stores.{Untidy}
 use Rattle.ix_docmap.specs.Marks.{Mark, Pending, Settled}
 use Rattle.ix_kinds.specs.Rows.{RowChange, table_or_none, table_at, row_change}
-use Rattle.ix_kinds.specs.Statements.{every, after_row_on, indexes_after_row, index_after_sync, indexes_after_sync, new_index, with_index}
+use Rattle.ix_kinds.specs.Statements.{bytes_behind, every, after_row_on, indexes_after_row, index_after_sync, indexes_after_sync, new_index, place_of, with_index}
 use Rattle.ix_kinds.specs.laws.Tables.{row_now}
 use Rattle.ix_context.specs.Indexes.{ContextIndex, Part, in_queue, is_key_in, part_with_marks, no_part, settled_rows, all_settled, mark_limit, texts_in, rows_within}
 use Rattle.ix_posting.specs.Forms.{counted_bytes, number_form}
@@ -83,11 +84,12 @@ use Rattle.db_state.specs.Lookups.{is_on_column}
 use Rattle.db_index.specs.declared.kinds.BuiltKind.TheVariants as built
 use Rattle.db_index.specs.Asking.{as_wanted, requests_in}
 use Rattle.db_index.specs.Indexing.{IsFreeIndex, all_rows, check_index, create_index_by, index_created, target, has_too_many_rows, has_index_on, passes_limit, with_new_index}
-use Rattle.db_index.specs.Syncing.{has_too_many, sync_as_kind, sync_found, with_synced}
+use Rattle.db_index.specs.Syncing.{has_too_many, its_sync_changes, sync_as_kind, sync_found, with_synced}
 use Rattle.db_index.specs.laws.NewMarks.{new_index_stands, synced_stands}
 use Rattle.db_engine.specs.Steps.{effect}
 use Rattle.db_engine.specs.ShownStore.{shown_columns, table_statement, index_statement, first_values, sync_statement, second_values, shown_statements, after_all, shown_entries, shown_store, shown_state}
 use Rattle.ix_context.specs.Contexts.{context_entry, context_synced, context_sync_changes}
+use Rattle.ix_kinds.specs.Standing.{index_entry, no_place}
 
 abbrev docs : List ℕ
 docs = codes "docs"
@@ -233,7 +235,7 @@ indexes_created =
     ∙ ap (λ (marks : Rows Its). indexes_of (index_of 0 marks)) (no_rows Its)
 
 abbrev second_changes : List KeyChange
-second_changes = put_value (key kind.Indexes di []) (index_bytes docs 1 default_prefs 1) ∷ []
+second_changes = put_value (key kind.Indexes di []) (index_bytes docs 1 default_prefs 1 Untidy no_place) ∷ []
 
 -- what a term's rows are put as
 abbrev its_rows : Kind → List ℕ × Growing → List KeyChange
@@ -251,8 +253,8 @@ no_postings =
 
 second_are : kinds.create_changes (inl all_rows) its_thesauri (table_at (tables_with []) docs) di (target docs 1) default_prefs ≡ second_changes
 second_are =
-    ap (λ (rows : List ℤ). put_value (key kind.Indexes di []) (context_entry (settling_context rows)) ∷ (mark_each_changes di 1 rows ++ postings_changes di (postings_by default_prefs texts_then) 1 rows)) no_row_yet
-    ∙ ap (λ (ws : List KeyChange). put_value (key kind.Indexes di []) (context_entry (settling_context [])) ∷ ws) no_postings
+    ap (λ (rows : List ℤ). put_value (key kind.Indexes di []) (context_entry (settling_context rows) no_place) ∷ (mark_each_changes di 1 rows ++ postings_changes di (postings_by default_prefs texts_then) 1 rows)) no_row_yet
+    ∙ ap (λ (ws : List KeyChange). put_value (key kind.Indexes di []) (context_entry (settling_context []) no_place) ∷ ws) no_postings
 
 abbrev second : Content
 second = after (spell second_changes) first
@@ -421,13 +423,27 @@ postings_are =
     ∙ words_are_put
 
 abbrev fourth_changes : List KeyChange
-fourth_changes = (settled_first ++ put_words) ++ put_value (key kind.Indexes di []) (index_bytes docs 1 default_prefs 2) ∷ []
+fourth_changes = (settled_first ++ put_words) ++ put_value (key kind.Indexes di []) (index_bytes docs 1 default_prefs 2 Untidy no_place) ∷ []
 
-fourth_are : kinds.sync_changes its_thesauri (table_at (tables_with one_row) docs) di waiting ≡ fourth_changes
+-- the entry of the index ends in no place yet
+third_entry : at third (key kind.Indexes di []) ≡ Some (index_bytes docs 1 default_prefs 1 Untidy no_place)
+unfolding row_bytes
+third_entry = at-after (new_row_changes (at second) docs (pos 1) row_one its_notes) second (key kind.Indexes di []) ∙ at-after second_changes first (key kind.Indexes di [])
+
+its_place : place_of kinds (at third) di waiting ≡ no_place
+unfolding varint encode
+its_place = ap (bytes_behind (length (index_entry kinds waiting []))) third_entry
+
+-- with so many rows settled
+abbrev its_bytes : Part → List ℕ
+its_bytes p = index_bytes docs 1 default_prefs (p.given + 1) p.tidiness no_place
+
+fourth_are : its_sync_changes (state_with one_row 0 ((pos 1, Pending) ∷ [])) third di waiting ≡ fourth_changes
 fourth_are =
-    ap (context_sync_changes di waiting_context its_texts) one_waits
-    ∙ ap (λ (ws : List KeyChange). (settled_first ++ ws) ++ put_value (key kind.Indexes di []) (context_entry (record waiting_context { body = context_synced waiting_context.body })) ∷ []) postings_are
-    ∙ ap (λ (rs : List ℤ). (settled_first ++ put_words) ++ put_value (key kind.Indexes di []) (index_bytes docs 1 default_prefs ((part_with_marks (length rs) (part_with 0)).given + 1)) ∷ []) one_waits
+    ap (kinds.sync_changes its_thesauri (table_at (tables_with one_row) docs) di waiting) its_place
+    ∙ ap (context_sync_changes di waiting_context no_place its_texts) one_waits
+    ∙ ap (λ (ws : List KeyChange). (settled_first ++ ws) ++ put_value (key kind.Indexes di []) (context_entry (record waiting_context { body = context_synced waiting_context.body }) no_place) ∷ []) postings_are
+    ∙ ap (λ (rs : List ℤ). (settled_first ++ put_words) ++ put_value (key kind.Indexes di []) (its_bytes (part_with_marks (length rs) (part_with 0))) ∷ []) one_waits
 
 few_enough : has_too_many waiting ≡ false
 few_enough = ap (λ (rs : List ℤ). not (nat_le (0 + length rs) mark_limit)) one_waits
@@ -450,7 +466,7 @@ fourth = after (spell fourth_changes) third
 fourth_stands : StandsForState fourth (state_with one_row 1 ((pos 1, Settled tt) ∷ []))
 fourth_stands =
     subst (λ (ws : List KeyChange). StandsForState (after (spell ws) third) (state_with one_row 1 ((pos 1, Settled tt) ∷ []))) fourth_are
-    (subst (λ (xs : Names Index). StandsForState (after (spell (kinds.sync_changes its_thesauri (table_at (tables_with one_row) docs) di waiting)) third) (record { tables = tables_with one_row; indexes = xs; preferences = no_preferences; thesauri = no_thesauri })) indexes_synced
+    (subst (λ (xs : Names Index). StandsForState (after (spell (its_sync_changes (state_with one_row 0 ((pos 1, Pending) ∷ [])) third di waiting)) third) (record { tables = tables_with one_row; indexes = xs; preferences = no_preferences; thesauri = no_thesauri })) indexes_synced
     (synced_stands third (state_with one_row 0 ((pos 1, Pending) ∷ [])) di waiting third_stands (index_there 0 ((pos 1, Pending) ∷ [])) few_enough))
 
 -- ---- INSERT INTO docs once more
@@ -482,8 +498,8 @@ table_is_created =
 
 index_is_created : effect without_index index_statement ≡ Does (state_with [] 0 []) index_created
 index_is_created =
-    ap (λ (o : Option Table). with_found o (UnknownName docs) (λ (x : Table). with_found (column_place (codes "body") x.columns) (UnknownName (codes "body")) (λ (place : ℕ). create_index_by without_index di docs built.Context (requests_in built.Context None) x place))) (table_there [])
-    ∙ ap (λ (b : Bool). check_index b true (Some (as_wanted default_prefs [])) (passes_limit without_index docs built.Context) di (λ w. Does (with_new_index without_index di docs built.Context 1 w) index_created)) index_free.free
+    ap (λ (o : Option Table). with_found o (UnknownName docs) (λ (x : Table). with_found (column_place (codes "body") x.columns) (UnknownName (codes "body")) (λ (place : ℕ). create_index_by without_index di docs built.Context None (requests_in built.Context None) x place))) (table_there [])
+    ∙ ap (λ (b : Bool). check_index b true (Some (as_wanted default_prefs [])) true (passes_limit without_index docs built.Context) di (λ w. Does (with_new_index without_index di docs built.Context 1 w) index_created)) index_free.free
     ∙ ap (λ (b : Bool). refuse b LimitReached (Does (with_new_index without_index di docs built.Context 1 (as_wanted default_prefs [])) index_created)) index_free.few
     ∙ ap (λ (xs : Names Index). Does (record { tables = tables_with []; indexes = xs; preferences = no_preferences; thesauri = no_thesauri }) index_created) indexes_created
 

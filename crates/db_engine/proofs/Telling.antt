@@ -1,11 +1,10 @@
 -- What the ways out of a statement tell over any content.
-use Rattle.std.proofs.Common.{◌≡◌, ℕ, Bool, true, false, List, [], ◌∷◌, ◌++◌, Some, None, Ok, Vec, refl, sym, ap, ◌∙◌, inl, inr, arith}
-use Rattle.std.specs.Prelude.{not, codes}
-use Rattle.std.specs.Bool.{if◌then◌else◌}
+use Rattle.std.proofs.Common.{◌≡◌, ℕ, true, List, [], ◌∷◌, ◌++◌, Some, None, Ok, Vec, refl, sym, ap, ◌∙◌, inl, inr, arith}
+use Rattle.std.specs.Prelude.{codes}
 use Rattle.std.specs.declared.alloc.Global.{Global}
 use Rattle.ct_keep.specs.KeeperViews.{KeeperView}
 use Rattle.db_cond.specs.Faults.{Refusal, NotUnderstood, UnknownName, ExistsAlready, WrongValues, KeyExists, ValueTooLong, StatementTooLong, QuerySyntax, NotInProfile, QueryNumber, NotOneWord, UnknownSection, FieldInside, UnknownThesaurus, TooManyTerms, QueryTooLarge, OutOfRange, NoIndexOfKind, BadValue, LimitReached, InNoSubIndex, refusal_line, store_full}
-use Rattle.st_parse.specs.declared.procedures.Procedure.TheVariants.{PolicyTokens, SyncIndex, ResultSet, Define, Thesaurus}
+use Rattle.st_parse.specs.declared.procedures.Procedure.TheVariants.{PolicyTokens, SyncIndex, OptimizeIndex, ResultSet, Define, Thesaurus}
 use Rattle.st_parse.specs.declared.statements.Statement.{Statement}
 use Rattle.st_parse.specs.declared.statements.Statement.TheVariants.{CreateTable, DropTable, DropIndex, CreateIndex, Insert, Update, Delete, Select, Exec, Commit}
 use Rattle.db_change.specs.Creating.{table_created}
@@ -16,7 +15,6 @@ use Rattle.db_change.specs.Deleting.{rows_deleted}
 use Rattle.db_change.specs.Dropping.{table_dropped}
 use Rattle.db_index.specs.Dropping.{index_dropped}
 use Rattle.db_state.specs.Lines.{call_done}
-use Rattle.db_engine.specs.Steps.{is_built_index}
 use Rattle.db_engine.specs.Executing.{done_line, is_fixed, Tells}
 use Rattle.db_state.specs.Plans.{DoneLines, line_for_all, Returns}
 use Rattle.db_engine.specs.declared.replies.Reply.TheVariants.{Text as ReplyText}
@@ -70,19 +68,16 @@ ends_otherwise : (xs : List ℕ) (a b c : ℕ) (cs : List ℕ) → before_last (
 unfolding before_last
 ends_otherwise xs a b c cs stop is = let e : 46 ≡ 108 = sym stop ∙ sym (before_last-append xs a b c cs) ∙ ap before_last is in omega (arith, e)
 
-if_some : (b : Bool) (line done : DoneLines) → (if b then Some line else None) ≡ Some done → line ≡ done
-if_some true line done is = cc
-if_some false line done is = cc
-
 -- and no change is said to be made by that line
 pub not_done : (s : Statement) (done : DoneLines) (rows : ℕ) → done_line s ≡ Some done → done rows ≡ store_full → ⊥
 unfolding second before_last
 not_done (CreateTable name columns) done rows is full = let line : line_for_all table_created ≡ done = cc in let e : 97 ≡ 56 = ap second (ap (λ (l : DoneLines). l rows) line ∙ full) in omega (arith, e)
-not_done (CreateIndex name table column kind parameters parallel) done rows is full = let e : 110 ≡ 56 = ap second (ap (λ (l : DoneLines). l rows) (if_some (is_built_index kind parallel) (line_for_all index_created) done is) ∙ full) in omega (arith, e)
+not_done (CreateIndex name table column kind parameters parallel) done rows is full = let line : line_for_all index_created ≡ done = cc in let e : 110 ≡ 56 = ap second (ap (λ (l : DoneLines). l rows) line ∙ full) in omega (arith, e)
 not_done (Insert table columns values) done rows is full = let line : line_for_all row_created ≡ done = cc in let e : 32 ≡ 56 = ap second (ap (λ (l : DoneLines). l rows) line ∙ full) in omega (arith, e)
 not_done (Exec PolicyTokens args) done rows is full = cc
 not_done (Exec ResultSet args) done rows is full = cc
 not_done (Exec SyncIndex args) done rows is full = let line : line_for_all call_done ≡ done = cc in let e : 76 ≡ 56 = ap second (ap (λ (l : DoneLines). l rows) line ∙ full) in omega (arith, e)
+not_done (Exec OptimizeIndex args) done rows is full = let line : line_for_all call_done ≡ done = cc in let e : 76 ≡ 56 = ap second (ap (λ (l : DoneLines). l rows) line ∙ full) in omega (arith, e)
 not_done (Exec (Define definition) args) done rows is full = let line : line_for_all call_done ≡ done = cc in let e : 76 ≡ 56 = ap second (ap (λ (l : DoneLines). l rows) line ∙ full) in omega (arith, e)
 not_done (Exec (Thesaurus procedure) args) done rows is full = let line : line_for_all call_done ≡ done = cc in let e : 76 ≡ 56 = ap second (ap (λ (l : DoneLines). l rows) line ∙ full) in omega (arith, e)
 not_done (DropTable name) done rows is full = let line : line_for_all table_dropped ≡ done = cc in let e : 97 ≡ 56 = ap second (ap (λ (l : DoneLines). l rows) line ∙ full) in omega (arith, e)
@@ -92,17 +87,14 @@ not_done (Delete table conds) done rows is full = let lines : rows_deleted ≡ d
 not_done (Select list table preds orders) done rows is full = cc
 not_done Commit done rows is full = cc
 
--- a statement that isn't built yet, or asks of a text alone, has no such line
-if_none : (b : Bool) (line : DoneLines) → not b ≡ true → (if b then Some line else None) ≡ None
-if_none true line is = cc
-if_none false line is = refl
-
+-- a statement that asks of a text alone, or is COMMIT, has no such line
 pub fixed_looks : (s : Statement) → is_fixed s ≡ true → done_line s ≡ None
 fixed_looks (CreateTable name columns) is = cc
-fixed_looks (CreateIndex name table column kind parameters parallel) is = if_none (is_built_index kind parallel) (line_for_all index_created) is
+fixed_looks (CreateIndex name table column kind parameters parallel) is = cc
 fixed_looks (Insert table columns values) is = cc
 fixed_looks (Exec PolicyTokens args) is = refl
 fixed_looks (Exec SyncIndex args) is = cc
+fixed_looks (Exec OptimizeIndex args) is = cc
 fixed_looks (Exec ResultSet args) is = cc
 fixed_looks (Exec (Define definition) args) is = cc
 fixed_looks (Exec (Thesaurus procedure) args) is = cc

@@ -1,6 +1,5 @@
 -- What executing a statement does to what is known of a keeper.
-use Rattle.std.specs.Prelude.{ℕ, ◌≡◌, ◌⊎◌, Bool, true, false, not, List, [], Option, Some, None, Result, Ok, Err, codes, refl}
-use Rattle.std.specs.Bool.{if◌then◌else◌}
+use Rattle.std.specs.Prelude.{ℕ, pos, ◌≡◌, ◌⊎◌, Bool, true, false, List, [], Option, Some, None, Result, Ok, Err, codes, refl}
 use Rattle.ct_base.specs.Causes.{Rose}
 use Rattle.ct_keep.specs.Content.{Content}
 use Rattle.ct_keep.specs.declared.keepers.KeepFault.{KeepFault}
@@ -9,8 +8,10 @@ use Rattle.ct_keep.specs.KeeperViews.{counted, KeeperView}
 use Rattle.st_parse.specs.declared.statements.Arg.{Arg}
 use Rattle.st_parse.specs.declared.statements.SelectList.TheVariants.{Star}
 use Rattle.st_parse.specs.declared.procedures.Definition.TheVariants.{CreateStoplist}
+use Rattle.st_parse.specs.declared.statements.IndexKind.TheVariants.{Context}
+use Rattle.st_parse.specs.declared.statements.Whole.TheVariants.{Fits}
 use Rattle.st_parse.specs.declared.procedures.Procedure.{Procedure}
-use Rattle.st_parse.specs.declared.procedures.Procedure.TheVariants.{PolicyTokens, SyncIndex, ResultSet, Define, Thesaurus}
+use Rattle.st_parse.specs.declared.procedures.Procedure.TheVariants.{PolicyTokens, SyncIndex, OptimizeIndex, ResultSet, Define, Thesaurus}
 use Rattle.st_parse.specs.declared.statements.Statement.{Statement}
 use Rattle.st_parse.specs.declared.statements.Statement.TheVariants.{CreateTable, DropTable, DropIndex, CreateIndex, Insert, Update, Delete, Select, Exec, Commit}
 use Rattle.db_cond.specs.Faults.{store_full}
@@ -25,7 +26,7 @@ use Rattle.db_change.specs.Dropping.{table_dropped}
 use Rattle.db_index.specs.Dropping.{index_dropped}
 use Rattle.db_index.specs.Tokenizing.{reads_no_preference}
 use Rattle.db_state.specs.Lines.{call_done}
-use Rattle.db_engine.specs.Steps.{effect, is_built_index, may_fill}
+use Rattle.db_engine.specs.Steps.{effect, may_fill}
 use Rattle.db_engine.specs.Runs.{Answer, Step, NoMemory, Full}
 use Rattle.db_engine.specs.declared.replies.Reply.{Reply}
 use Rattle.db_engine.specs.declared.replies.Reply.TheVariants.{Text as ReplyText, Full as ReplyFull, NoMemory as ReplyNoMemory}
@@ -76,21 +77,19 @@ fault_of_stop (Err DiskStop) = Some Disk
 
 -- ---- what `execute` promises over any content, also one that stands for no state
 
--- the lines by which CREATE INDEX, where it is built, and the call of a procedure say that their change is made
-abbrev pub index_line : Bool → Option DoneLines
-index_line built = if built then Some (line_for_all index_created) else None
-
+-- the lines by which the call of a procedure says that its change is made
 abbrev pub call_line : Procedure → Option DoneLines
 call_line PolicyTokens = None
 call_line SyncIndex = Some (line_for_all call_done)
+call_line OptimizeIndex = Some (line_for_all call_done)
 call_line ResultSet = None
 call_line (Define definition) = Some (line_for_all call_done)
 call_line (Thesaurus procedure) = Some (line_for_all call_done)
 
--- The lines by which a statement says that its change is made. None where it changes nothing: it only looks, is COMMIT, or is refused since it isn't built yet.
+-- The lines by which a statement says that its change is made. None where it changes nothing: it only looks, or is COMMIT.
 abbrev pub done_line : Statement → Option DoneLines
 done_line (CreateTable name columns) = Some (line_for_all table_created)
-done_line (CreateIndex name table column kind parameters parallel) = index_line (is_built_index kind parallel)
+done_line (CreateIndex name table column kind parameters parallel) = Some (line_for_all index_created)
 done_line (Insert table columns values) = Some (line_for_all row_created)
 done_line (Update table assigns conds) = Some rows_updated
 done_line (Delete table conds) = Some rows_deleted
@@ -104,14 +103,15 @@ done_line Commit = None
 abbrev pub is_fixed_call : Procedure → List Arg → Bool
 is_fixed_call PolicyTokens args = reads_no_preference args
 is_fixed_call SyncIndex args = false
+is_fixed_call OptimizeIndex args = false
 is_fixed_call ResultSet args = false
 is_fixed_call (Define definition) args = false
 is_fixed_call (Thesaurus procedure) args = false
 
--- Whether the reply to a statement is the same in every state: it asks of a text alone, is COMMIT, or makes an index with PARALLEL, which isn't built yet.
+-- Whether the reply to a statement is the same in every state: it asks of a text alone, or is COMMIT.
 abbrev pub is_fixed : Statement → Bool
 is_fixed (CreateTable name columns) = false
-is_fixed (CreateIndex name table column kind parameters parallel) = not (is_built_index kind parallel)
+is_fixed (CreateIndex name table column kind parameters parallel) = false
 is_fixed (Insert table columns values) = false
 is_fixed (Update table assigns conds) = false
 is_fixed (Delete table conds) = false
@@ -166,6 +166,10 @@ sync_line = refl
 
 definition_line : done_line (Exec (Define CreateStoplist) []) ≡ Some (line_for_all (codes "PL/SQL procedure successfully completed.\n"))
 definition_line = refl
+
+-- whatever PARALLEL gives, also a number of threads for which it is refused
+index_line : done_line (CreateIndex (codes "di") (codes "docs") (codes "body") Context None (Some (Fits (pos 17)))) ≡ Some (line_for_all (codes "Index created.\n"))
+index_line = refl
 
 select_line : done_line (Select Star (codes "docs") [] []) ≡ None
 select_line = refl

@@ -4,7 +4,7 @@ use Rattle.ct_keep.specs.Content.{Content}
 use Rattle.ct_keep.specs.KeeperViews.{KeeperView}
 use Rattle.ct_keep.specs.declared.keepers.KeepFault.{KeepFault}
 use Rattle.st_parse.specs.declared.procedures.Procedure.{Procedure}
-use Rattle.st_parse.specs.declared.procedures.Procedure.TheVariants.{PolicyTokens, SyncIndex, ResultSet, Define, Thesaurus}
+use Rattle.st_parse.specs.declared.procedures.Procedure.TheVariants.{PolicyTokens, SyncIndex, OptimizeIndex, ResultSet, Define, Thesaurus}
 use Rattle.st_parse.specs.declared.statements.Arg.{Arg}
 use Rattle.st_parse.specs.declared.statements.Arg.TheVariants.{Text as TextArg}
 use Rattle.st_parse.specs.declared.statements.Pred.TheVariants.{Contains, Matches}
@@ -22,6 +22,7 @@ use Rattle.db_select.specs.Choosing.{selection}
 abbrev pub call_allowance : Content → StoreState → Procedure → List Arg → Allowance
 call_allowance c m PolicyTokens args = unbounded
 call_allowance c m SyncIndex args = unbounded
+call_allowance c m OptimizeIndex args = unbounded
 call_allowance c m ResultSet args = result_allowance c m args
 call_allowance c m (Define definition) args = unbounded
 call_allowance c m (Thesaurus procedure) args = unbounded

@@ -1,29 +1,26 @@
 -- What one statement does: the state after it, and its reply.
-use Rattle.std.specs.Prelude.{ℕ, pos, Bool, true, false, List, [], ◌∷◌, length, Option, Some, None, codes, ◌≡◌, refl, nat_le, is_some, ◌++◌}
+use Rattle.std.specs.Prelude.{ℕ, pos, Bool, true, false, List, [], ◌∷◌, length, Some, None, codes, ◌≡◌, refl, nat_le, ◌++◌}
 use Rattle.std.specs.Bool.{if◌then◌else◌}
 use Rattle.std.specs.Str.{chars, is_utf8}
 use Rattle.st_parse.specs.declared.statements.Arg.{Arg}
 use Rattle.db_cond.specs.Faults.{NotUnderstood, StatementTooLong}
 use Rattle.db_state.specs.States.{StoreState, empty_state}
-use Rattle.db_state.specs.Effects.{Effect, Refused, Does, reply_by, with_found}
+use Rattle.db_state.specs.Effects.{Effect, Refused, Does, reply_by}
 use Rattle.std.specs.Fmt.{digits}
 use lib.Utf8.{encode}
 use Rattle.ucd_category.proofs.Computing.{ucd_category}
 use Rattle.caseless.proofs.Computing.{caseless}
 use Rattle.tx_chars.specs.Keys.{key_text}
-use Rattle.st_parse.specs.declared.statements.IndexKind.{IndexKind}
-use Rattle.st_parse.specs.declared.statements.IndexKind.TheVariants.{Context, Ctxrule}
-use Rattle.st_parse.specs.declared.statements.Whole.{Whole}
+use Rattle.st_parse.specs.declared.statements.IndexKind.TheVariants as asked
 use Rattle.st_parse.specs.declared.statements.Whole.TheVariants.{Fits}
 use Rattle.st_parse.specs.declared.procedures.Procedure.{Procedure}
-use Rattle.st_parse.specs.declared.procedures.Procedure.TheVariants.{PolicyTokens, SyncIndex, ResultSet, Define, Thesaurus}
+use Rattle.st_parse.specs.declared.procedures.Procedure.TheVariants.{PolicyTokens, SyncIndex, OptimizeIndex, ResultSet, Define, Thesaurus}
 use Rattle.st_parse.specs.declared.statements.Statement.{Statement}
 use Rattle.st_parse.specs.declared.statements.Statement.TheVariants.{CreateTable, DropTable, DropIndex, CreateIndex, Insert, Update, Delete, Select, Exec, Commit}
 use Rattle.st_parse.specs.Grammar.{Read, NoStatement, Found, read}
 use Rattle.st_parse.specs.Grammar.{Blank}
 use Rattle.db_change.specs.Creating.{create_table}
-use Rattle.db_index.specs.declared.kinds.BuiltKind.{BuiltKind}
-use Rattle.db_index.specs.declared.kinds.BuiltKind.TheVariants.{Rules}
+use Rattle.db_index.specs.declared.kinds.BuiltKind.TheVariants.{Context, Rules}
 use Rattle.db_index.specs.Kinds.{built_kind}
 use Rattle.db_index.specs.Indexing.{create_index}
 use Rattle.db_change.specs.Inserting.{insert_into}
@@ -35,6 +32,7 @@ use Rattle.db_select.specs.Statements.{select_statement}
 use Rattle.db_select.specs.Choosing.{selection}
 use Rattle.db_index.specs.Tokenizing.{policy_tokens}
 use Rattle.db_index.specs.Syncing.{sync_index}
+use Rattle.db_index.specs.Optimizing.{optimize_index}
 use Rattle.db_hits.specs.Calling.{result_set}
 use Rattle.db_prefs.specs.Defining.{define}
 use Rattle.db_thes.specs.Calling.{call_thesaurus}
@@ -44,21 +42,10 @@ use Rattle.db_thes.specs.Calling.{call_thesaurus}
 abbrev pub call : StoreState → Procedure → List Arg → Effect
 call m PolicyTokens args = policy_tokens m args
 call m SyncIndex args = sync_index m args
+call m OptimizeIndex args = optimize_index m args
 call m ResultSet args = result_set m args
 call m (Define definition) args = define m definition args
 call m (Thesaurus procedure) args = call_thesaurus m procedure args
-
--- the kind of an index without PARALLEL, which isn't built yet
-abbrev pub built_index : IndexKind → Option Whole → Option BuiltKind
-built_index kind None = Some (built_kind kind)
-built_index kind (Some degree) = None
-
-abbrev pub is_built_index : IndexKind → Option Whole → Bool
-is_built_index kind parallel = is_some (built_index kind parallel)
-
--- CREATE INDEX, where it is built
-abbrev pub create_index_if : Option BuiltKind → StoreState → List ℕ → List ℕ → List ℕ → Option (List ℕ) → Effect
-create_index_if built m i t column parameters = with_found built NotUnderstood (λ kind. create_index m i t column kind parameters)
 
 -- COMMIT changes nothing, since each statement is kept by itself
 abbrev pub commit_complete : List ℕ
@@ -67,7 +54,7 @@ commit_complete = codes "Commit complete.\n"
 -- what a statement does
 abbrev pub effect : StoreState → Statement → Effect
 effect m (CreateTable name columns) = create_table m name columns
-effect m (CreateIndex name table column kind parameters parallel) = create_index_if (built_index kind parallel) m name table column parameters
+effect m (CreateIndex name table column kind parameters parallel) = create_index m name table column (built_kind kind) parameters parallel
 effect m (Insert table columns values) = insert_into m table columns values
 effect m (Select list table preds orders) = select_statement m (selection list orders) table preds
 effect m (Exec procedure args) = call m procedure args
@@ -81,6 +68,7 @@ effect m Commit = Does m commit_complete
 abbrev pub may_fill_by : Procedure → Bool
 may_fill_by PolicyTokens = false
 may_fill_by SyncIndex = true
+may_fill_by OptimizeIndex = true
 may_fill_by ResultSet = false
 may_fill_by (Define definition) = true
 may_fill_by (Thesaurus procedure) = true
@@ -122,11 +110,11 @@ abbrev pub rest_step : ℕ → StoreState → List ℕ → Effect
 rest_step limit m bytes = if nat_le (length bytes) limit then rest_of m (read_bytes bytes) else Refused StatementTooLong
 
 -- computed examples
-an_index_in_parallel : built_index Context (Some (Fits (pos 2))) ≡ None
-an_index_in_parallel = refl
-
-an_index_of_rules : (m : StoreState) → effect m (CreateIndex (codes "ri") (codes "rules") (codes "rule") Ctxrule None None) ≡ create_index m (codes "ri") (codes "rules") (codes "rule") Rules None
+an_index_of_rules : (m : StoreState) → effect m (CreateIndex (codes "ri") (codes "rules") (codes "rule") asked.Ctxrule None None) ≡ create_index m (codes "ri") (codes "rules") (codes "rule") Rules None None
 an_index_of_rules m = refl
+
+an_index_in_parallel : (m : StoreState) → effect m (CreateIndex (codes "di") (codes "docs") (codes "body") asked.Context None (Some (Fits (pos 2)))) ≡ create_index m (codes "di") (codes "docs") (codes "body") Context None (Some (Fits (pos 2)))
+an_index_in_parallel m = refl
 
 abbrev reply : List ℕ → List ℕ
 reply bytes = reply_by (statement_step 65536 empty_state bytes)
@@ -153,6 +141,10 @@ no_name_of_an_index : reply (codes "EXEC CTX_QUERY.RESULT_SET('no name', 'fox', 
 unfolding chars is_utf8 encode
 no_name_of_an_index = refl
 
+nothing_to_optimise : reply (codes "EXEC CTX_DDL.OPTIMIZE_INDEX('no name', 'FULL', 50)") ≡ codes "E30: bad attribute or value\n"
+unfolding chars is_utf8 encode
+nothing_to_optimise = refl
+
 -- half of it, in a comment
 no_text : reply (codes "-- " ++ 0xC3 ∷ []) ≡ codes "E10: statement not understood\n"
 unfolding chars is_utf8 encode
@@ -178,6 +170,9 @@ table_may_fill = refl
 
 sync_may_fill : may_fill (Exec SyncIndex []) ≡ true
 sync_may_fill = refl
+
+optimisation_may_fill : may_fill (Exec OptimizeIndex []) ≡ true
+optimisation_may_fill = refl
 
 tokens_never_fill : may_fill (Exec PolicyTokens []) ≡ false
 tokens_never_fill = refl

@@ -1,38 +1,29 @@
 //! Executes statements, each by at most one commit.
 #![tactic(auto, using(ct_keep::specs::laws::Composing::reads_on, ct_keep::specs::laws::Composing::reads_short))]
 
-ghost use Rattle.std.specs.Prelude.{ℕ, ◌≡◌, ◌&&◌, List, IfOk, Some, None, Err, true, false, is_some, not, codes, bytes_eq};
-ghost use Rattle.ct_keep.specs.KeeperViews.{AtMostOneCommit, SameButContent, OnlyReads, ReadsKeeper, Told, fault_of};
+ghost use Rattle.std.specs.Prelude.{◌≡◌, Some, None, Err, true};
+ghost use Rattle.ct_keep.specs.KeeperViews.{AtMostOneCommit, SameButContent, ReadsKeeper, Told, fault_of};
 ghost use Rattle.db_state.specs.Shapes.{AcceptsStatements};
-ghost use Rattle.db_cond.specs.Faults.{NotUnderstood, refusal_line};
 ghost use Rattle.db_state.specs.Effects.{reply_by};
 ghost use Rattle.db_state.specs.States.{StoreState};
-ghost use Rattle.db_engine.specs.Steps.{call as call_effect, create_index_if, effect, built_index as index_built, may_fill, may_fill_by};
+ghost use Rattle.db_engine.specs.Steps.{call as call_effect, effect, may_fill, may_fill_by};
 ghost use Rattle.db_engine.specs.Looking.{CallLooksAsAllowed, LooksAsAllowed};
-ghost use Rattle.db_engine.specs.Executing.{ExecutesStatement, FullByCount, IfText, NoTextIsFull, Tells, call_line, done_line, fault_of_stop, index_line, is_fixed, is_fixed_call};
+ghost use Rattle.db_engine.specs.Executing.{ExecutesStatement, FullByCount, IfText, NoTextIsFull, Tells, call_line, done_line, fault_of_stop, is_fixed, is_fixed_call};
 ghost use Rattle.db_state.specs.Plans.{DoneLines, GivesReply, Replies};
 
 use crate::replies::{Reply, Stop};
-use ct_base::{Bytes, Listed, Memory, Name, Text};
+use ct_base::{Bytes, Listed};
 use ct_keep::{KeepFault, Keeper};
 use db_change::{create_table, delete_from, drop_table, insert_into, update};
-use db_cond::not_understood;
 use db_hits::result_set;
-use db_index::{BuiltKind, built_kind, create_index, drop_index, policy_tokens, sync_index};
+use db_index::{built_kind, create_index, drop_index, optimize_index, policy_tokens, sync_index};
 use db_prefs::define;
 use db_select::{looking_law, select};
 use db_state::fixed_reply;
 use db_thes::call_thesaurus;
-use st_parse::{Arg, IndexKind, Procedure, Statement, Whole};
+use st_parse::{Arg, Procedure, Statement};
 use std::alloc::Global;
 use std::thread::Threads;
-
-/// The reply of a statement that isn't built yet.
-fn not_built(alloc: Global) -> Result<Vec<u8>, Memory>
-    ensures { IfOk result (λ reply. reply.items ≡ refusal_line NotUnderstood) }
-{
-    fixed_reply(alloc, not_understood())
-}
 
 /// The call of a procedure.
 fn call<R: Threads + Sync, K: Keeper>(
@@ -53,44 +44,13 @@ fn call<R: Threads + Sync, K: Keeper>(
     match procedure {
         Procedure::PolicyTokens => policy_tokens(alloc, keeper, args.as_slice()),
         Procedure::SyncIndex => sync_index(rt, alloc, degree, keeper, args.as_slice()),
+        Procedure::OptimizeIndex => optimize_index(alloc, keeper, args.as_slice()),
         Procedure::ResultSet => result_set(alloc, keeper, args.as_slice()),
         Procedure::Define(definition) => define(alloc, keeper, definition, args.as_slice()),
         Procedure::Thesaurus(procedure) => {
             call_thesaurus(alloc, keeper, procedure, args.as_slice())
         }
     }
-}
-
-/// The kind of an index without PARALLEL, which isn't built yet.
-fn built_index(kind: IndexKind, parallel: &Option<Whole>) -> Option<BuiltKind>
-    ensures { result ≡ index_built kind parallel.now }
-{
-    match parallel {
-        None => Some(built_kind(kind)),
-        Some(_) => None,
-    }
-}
-
-/// CREATE INDEX, where it is built.
-fn index_statement<R: Threads + Sync, K: Keeper>(
-    rt: &R,
-    alloc: Global,
-    degree: u32,
-    keeper: &mut K,
-    index: &Name,
-    table: &Name,
-    column: &Name,
-    text: &Option<Text>,
-    kind: Option<BuiltKind>,
-) -> Result<Vec<u8>, KeepFault>
-    requires { AcceptsStatements (K.view keeper.old) }
-    ensures serves { Replies K.view keeper.old keeper.new result (λ m. create_index_if kind m index.now table.now column.now text.now) (index_line (is_some kind)) }
-    ensures fixed { is_some kind ≡ false → IfOk result (λ reply. reply.items ≡ refusal_line NotUnderstood) }
-{
-    let Some(kind) = kind else {
-        return Ok(not_built(alloc)?);
-    };
-    create_index(rt, alloc, degree, keeper, index, table, column, kind, text)
 }
 
 /// The reply to a statement: its lines, with their newlines.
@@ -120,9 +80,9 @@ fn reply_to<R: Threads + Sync, K: Keeper>(
             parameters,
             parallel,
         } => {
-            let built = built_index(*kind, parallel);
-            index_statement(
-                rt, alloc, degree, keeper, name, table, column, parameters, built,
+            let built = built_kind(*kind);
+            create_index(
+                rt, alloc, degree, keeper, name, table, column, built, parameters, parallel,
             )
         }
         Statement::Insert {
@@ -158,8 +118,8 @@ fn reply_to<R: Threads + Sync, K: Keeper>(
     }
 }
 
-/// Executes a statement, by at most one commit. The reply is the whole text, with its newlines. At most `degree` threads may work
-/// on it; for now one does. Its cost is that of the statement's own function.
+/// Executes a statement, by at most one commit. The reply is the whole text, with its newlines. At most `degree` threads may
+/// work on it, of a CREATE INDEX with PARALLEL as many as that says. Its cost is that of the statement's own function.
 ///
 /// # Errors
 ///

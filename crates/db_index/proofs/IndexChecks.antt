@@ -20,6 +20,7 @@ use Rattle.ct_entry.specs.laws.Owners.{key_order_total, key_order_tie}
 use Rattle.tb_table.specs.declared.columns.Column.{Column}
 use Rattle.tb_table.specs.Tables.{Table}
 use Rattle.tb_table.specs.Rules.{AreTables}
+use Rattle.st_parse.specs.declared.statements.Whole.{Whole}
 use Rattle.tx_prefs.specs.declared.requests.Request.{Request}
 use Rattle.ix_kinds.specs.Rows.{table_at}
 use Rattle.ix_kinds.specs.Targets.{is_text_at}
@@ -31,7 +32,7 @@ use Rattle.db_names.specs.declared.heads.IndexHead.{IndexHead}
 use Rattle.db_names.specs.declared.heads.IndexKind.{IndexKind}
 use Rattle.db_names.specs.Promises.{is_on_table, heads_of}
 use Rattle.db_cond.specs.declared.faults.Fault.{Fault}
-use Rattle.db_cond.specs.Faults.{UnknownName, ExistsAlready, WrongValues, BadValue, LimitReached}
+use Rattle.db_cond.specs.Faults.{UnknownName, ExistsAlready, WrongValues, BadValue, OutOfRange, LimitReached}
 use Rattle.db_cond.specs.Refused.{refusal_of}
 use Rattle.db_state.specs.States.{StoreState, indexes_on, index_limit}
 use Rattle.db_state.specs.Effects.{Effect, Refused, Does, Checks, refuse, refuse_by, with_found}
@@ -46,7 +47,7 @@ use Rattle.db_index.specs.declared.kinds.BuiltKind.{BuiltKind}
 use Rattle.db_index.specs.declared.kinds.BuiltKind.TheVariants.{Context, Catalogue, Rules}
 use Rattle.db_index.specs.declared.asking.Wanted.{Wanted}
 use Rattle.db_index.specs.Asking.{AsksForIndex, SectionsFit, are_sub_columns, fitting, requests_in, first_unknown_name, wanted_in}
-use Rattle.db_index.specs.Indexing.{IsFreeIndex, all_rows, asked_for, check_flags, check_index, columns_or_none, create_index, create_index_by, create_index_on, has_index_on, has_too_many_rows, index_created, is_index_taken, passes_limit, target, with_new_index}
+use Rattle.db_index.specs.Indexing.{IsFreeIndex, all_rows, asked_for, check_flags, check_index, columns_or_none, create_index, create_index_by, create_index_on, has_index_on, has_too_many_rows, index_created, is_degree, is_index_taken, passes_limit, target, with_new_index}
 use Rattle.db_index.specs.laws.Counting.{counted, count-cons, count_insert}
 use Rattle.db_index.specs.laws.AllRows.{every_row}
 
@@ -120,10 +121,11 @@ abbrev pub done_by : Option Wanted → (Wanted → Effect) → Effect
 done_by None done = Refused BadValue
 done_by (Some w) done = done w
 
-by_flags : (there texts : Bool) (found : Option Wanted) (many_by : Wanted → Bool) (many : Bool) (i : List ℕ) (done : Wanted → Effect) → ((w : Wanted) → many_by w ≡ many)
-    → check_index there texts found many_by i done ≡ check_flags there texts (is_some found) many i (done_by found done)
-by_flags there texts None many_by many i done same = refl
-by_flags there texts (Some w) many_by many i done same = ap (λ (b : Bool). refuse there (ExistsAlready i) (refuse (not texts) WrongValues (refuse b LimitReached (done w)))) (same w)
+by_flags : (there texts : Bool) (found : Option Wanted) (ranged : Bool) (many_by : Wanted → Bool) (many : Bool) (i : List ℕ) (done : Wanted → Effect) → ((w : Wanted) → many_by w ≡ many)
+    → check_index there texts found ranged many_by i done ≡ check_flags there texts (is_some found) ranged many i (done_by found done)
+by_flags there texts None ranged many_by many i done same = refl
+by_flags there texts (Some w) ranged many_by many i done same =
+    ap (λ (b : Bool). refuse there (ExistsAlready i) (refuse (not texts) WrongValues (refuse (not ranged) OutOfRange (refuse b LimitReached (done w))))) (same w)
 
 -- what fits is what is wanted
 pub fitting_is : (cs : List Column) (found : Option Wanted) (w : Wanted) → found ≡ Some w → is_some (fitting cs found) ≡ true → (fitting cs found ≡ Some w) × (are_sub_columns cs w.subs ≡ true)
@@ -135,9 +137,10 @@ fitting_is cs (Some v) w is h = let same : v ≡ w = cc in go (are_sub_columns c
     go false are h same = cc
 
 -- the effect by the fault that the checks of what was read found, or where they found none
-module _ (m : StoreState) (i t : List ℕ) (kind : BuiltKind) (x : Table) (place : ℕ) (wanted : Option Wanted) (taken texts formed many : Bool) (found : Option Fault) (are : AreTables m.tables) (there : get m.tables t ≡ Some x)
+module _ (m : StoreState) (i t : List ℕ) (kind : BuiltKind) (parallel : Option Whole) (x : Table) (place : ℕ) (wanted : Option Wanted) (taken texts formed ranged many : Bool) (found : Option Fault) (are : AreTables m.tables) (there : get m.tables t ≡ Some x)
     (taken_is : taken ≡ is_index_taken kind m i t place) (texts_is : texts ≡ is_text_at x.columns place) (formed_is : formed ≡ is_some (fitting x.columns wanted))
-    (many_is : many ≡ nat_le index_limit (length (indexes_on m.indexes t))) (checks : (done : Effect) → Checks found (check_flags taken texts formed many i done) done) where
+    (ranged_is : ranged ≡ is_degree parallel) (many_is : many ≡ nat_le index_limit (length (indexes_on m.indexes t)))
+    (checks : (done : Effect) → Checks found (check_flags taken texts formed ranged many i done) done) where
   abbrev made_of : Wanted → Effect
   made_of w = Does (with_new_index m i t kind place w) index_created
 
@@ -145,26 +148,28 @@ module _ (m : StoreState) (i t : List ℕ) (kind : BuiltKind) (x : Table) (place
   made = done_by (fitting x.columns wanted) made_of
 
   -- the effect by what was read
-  as_checked : create_index_on m i t kind x place wanted ≡ check_flags taken texts formed many i made
+  as_checked : create_index_on m i t kind parallel x place wanted ≡ check_flags taken texts formed ranged many i made
   as_checked =
-      ap (λ (b : Bool). check_index b (is_text_at x.columns place) (fitting x.columns wanted) (passes_limit m t kind) i made_of) (sym taken_is)
-      ∙ ap (λ (b : Bool). check_index taken b (fitting x.columns wanted) (passes_limit m t kind) i made_of) (sym texts_is)
-      ∙ by_flags taken texts (fitting x.columns wanted) (passes_limit m t kind) many i made_of (λ w. or_false _ _ (few_rows m t kind x w are there) ∙ sym many_is)
-      ∙ ap (λ (b : Bool). check_flags taken texts b many i made) (sym formed_is)
+      ap (λ (b : Bool). check_index b (is_text_at x.columns place) (fitting x.columns wanted) (is_degree parallel) (passes_limit m t kind) i made_of) (sym taken_is)
+      ∙ ap (λ (b : Bool). check_index taken b (fitting x.columns wanted) (is_degree parallel) (passes_limit m t kind) i made_of) (sym texts_is)
+      ∙ ap (λ (b : Bool). check_index taken texts (fitting x.columns wanted) b (passes_limit m t kind) i made_of) (sym ranged_is)
+      ∙ by_flags taken texts (fitting x.columns wanted) ranged (passes_limit m t kind) many i made_of (λ w. or_false _ _ (few_rows m t kind x w are there) ∙ sym many_is)
+      ∙ ap (λ (b : Bool). check_flags taken texts b ranged many i made) (sym formed_is)
 
-  pub faulty : (fault : Fault) → found ≡ Some fault → create_index_on m i t kind x place wanted ≡ Refused (refusal_of fault)
-  faulty fault is = as_checked ∙ refused found fault (check_flags taken texts formed many i made) made is (checks made)
+  pub faulty : (fault : Fault) → found ≡ Some fault → create_index_on m i t kind parallel x place wanted ≡ Refused (refusal_of fault)
+  faulty fault is = as_checked ∙ refused found fault (check_flags taken texts formed ranged many i made) made is (checks made)
 
   -- where something is wanted, no check holds, and the index is made
   pub faultless : (w : Wanted) → found ≡ None → wanted ≡ Some w → formed ≡ true → SectionsFit kind w
-      → IsFreeIndex m i t kind x place w × (create_index_on m i t kind x place wanted ≡ Does (with_new_index m i t kind place w) index_created)
+      → IsFreeIndex m i t kind x place w × (create_index_on m i t kind parallel x place wanted ≡ Does (with_new_index m i t kind place w) index_created)
   faultless w none is good sections =
       let fits = fitting_is x.columns wanted w is (sym formed_is ∙ good) in
-      let effect = as_checked ∙ checked found (check_flags taken texts formed many i made) made none (checks made) ∙ ap (λ (o : Option Wanted). done_by o made_of) fits.0 in
+      let effect = as_checked ∙ checked found (check_flags taken texts formed ranged many i made) made none (checks made) ∙ ap (λ (o : Option Wanted). done_by o made_of) fits.0 in
       let p = passed _ _ _ (with_new_index m i t kind place w) index_created
-      (ap (λ (o : Option Wanted). check_index (is_index_taken kind m i t place) (is_text_at x.columns place) o (passes_limit m t kind) i made_of) (sym fits.0) ∙ effect) in
+      (ap (λ (o : Option Wanted). check_index (is_index_taken kind m i t place) (is_text_at x.columns place) o (is_degree parallel) (passes_limit m t kind) i made_of) (sym fits.0) ∙ effect) in
       let q = passed _ _ _ (with_new_index m i t kind place w) index_created p.1 in
-      let r = passed _ _ _ (with_new_index m i t kind place w) index_created q.1 in
+      let s = passed _ _ _ (with_new_index m i t kind place w) index_created q.1 in
+      let r = passed _ _ _ (with_new_index m i t kind place w) index_created s.1 in
       (record { there = there; free = p.0; texts = not_true (is_text_at x.columns place) q.0; subs = fits.1; few = r.0; sections = sections }, effect)
     where
       not_true : (b : Bool) → not b ≡ false → b ≡ true
@@ -210,17 +215,17 @@ place_within name cs place is = let far = go 0 cs is in omega (arith, far)
 
 -- ---- the effect by the table and the column
 
-module _ (m : StoreState) (i t column : List ℕ) (kind : BuiltKind) (parameters : Option (List ℕ)) where
+module _ (m : StoreState) (i t column : List ℕ) (kind : BuiltKind) (parameters : Option (List ℕ)) (parallel : Option Whole) where
   abbrev by_place : Table → ℕ → Effect
-  by_place x place = create_index_by m i t kind (requests_in kind parameters) x place
+  by_place x place = create_index_by m i t kind parallel (requests_in kind parameters) x place
 
   abbrev by_table : Table → Effect
   by_table x = with_found (column_place column x.columns) (UnknownName column) (by_place x)
 
-  pub unknown_table : get m.tables t ≡ None → create_index m i t column kind parameters ≡ Refused (UnknownName t)
+  pub unknown_table : get m.tables t ≡ None → create_index m i t column kind parameters parallel ≡ Refused (UnknownName t)
   unknown_table none = ap (λ (o : Option Table). with_found o (UnknownName t) by_table) none
 
-  pub unknown_column : (x : Table) → get m.tables t ≡ Some x → column_place column x.columns ≡ None → create_index m i t column kind parameters ≡ Refused (UnknownName column)
+  pub unknown_column : (x : Table) → get m.tables t ≡ Some x → column_place column x.columns ≡ None → create_index m i t column kind parameters parallel ≡ Refused (UnknownName column)
   unknown_column x there none = ap (λ (o : Option Table). with_found o (UnknownName t) by_table) there ∙ ap (λ (o : Option ℕ). with_found o (UnknownName column) (by_place x)) none
 
   -- The column stands at this place of the table with these columns, of which this was asked for, and the effect is by all these.
@@ -230,7 +235,7 @@ module _ (m : StoreState) (i t column : List ℕ) (kind : BuiltKind) (parameters
     pub same : columns ≡ table.columns
     pub few : place < length table.columns
     pub asks : AsksForIndex m.preferences table.columns (requests_in kind parameters) (record { unknown = unknown; wanted = found })
-    pub effect : create_index m i t column kind parameters ≡ create_index_by m i t kind (requests_in kind parameters) table place
+    pub effect : create_index m i t column kind parameters parallel ≡ create_index_by m i t kind parallel (requests_in kind parameters) table place
 
   pub on_column : (read : Option (List Column)) (columns : List Column) (place : ℕ) (unknown : Option (List ℕ)) (found : Option Wanted) → read ≡ option_map (λ (x : Table). x.columns) (get m.tables t)
       → AsksForIndex m.preferences (columns_or_none read) (requests_in kind parameters) (record { unknown = unknown; wanted = found })
@@ -248,14 +253,14 @@ module _ (m : StoreState) (i t column : List ℕ) (kind : BuiltKind) (parameters
       }
 
 -- and by what PARAMETERS asks for
-pub unknown_asked : (m : StoreState) (i t : List ℕ) (kind : BuiltKind) (requests : Option (List Request)) (x : Table) (place : ℕ) (name : List ℕ)
-    → first_unknown_name m.preferences x.columns requests ≡ Some name → create_index_by m i t kind requests x place ≡ Refused (UnknownName name)
-unknown_asked m i t kind requests x place name is = ap (λ (o : Option (List ℕ)). refuse_by o UnknownName (create_index_on m i t kind x place (wanted_in m.preferences requests))) is
+pub unknown_asked : (m : StoreState) (i t : List ℕ) (kind : BuiltKind) (parallel : Option Whole) (requests : Option (List Request)) (x : Table) (place : ℕ) (name : List ℕ)
+    → first_unknown_name m.preferences x.columns requests ≡ Some name → create_index_by m i t kind parallel requests x place ≡ Refused (UnknownName name)
+unknown_asked m i t kind parallel requests x place name is = ap (λ (o : Option (List ℕ)). refuse_by o UnknownName (create_index_on m i t kind parallel x place (wanted_in m.preferences requests))) is
 
-pub known_asked : (m : StoreState) (i t : List ℕ) (kind : BuiltKind) (requests : Option (List Request)) (x : Table) (place : ℕ) (wanted : Option Wanted)
-    → first_unknown_name m.preferences x.columns requests ≡ None → wanted ≡ wanted_in m.preferences requests → create_index_by m i t kind requests x place ≡ create_index_on m i t kind x place wanted
-known_asked m i t kind requests x place wanted none is =
-    ap (λ (o : Option (List ℕ)). refuse_by o UnknownName (create_index_on m i t kind x place (wanted_in m.preferences requests))) none ∙ ap (create_index_on m i t kind x place) (sym is)
+pub known_asked : (m : StoreState) (i t : List ℕ) (kind : BuiltKind) (parallel : Option Whole) (requests : Option (List Request)) (x : Table) (place : ℕ) (wanted : Option Wanted)
+    → first_unknown_name m.preferences x.columns requests ≡ None → wanted ≡ wanted_in m.preferences requests → create_index_by m i t kind parallel requests x place ≡ create_index_on m i t kind parallel x place wanted
+known_asked m i t kind parallel requests x place wanted none is =
+    ap (λ (o : Option (List ℕ)). refuse_by o UnknownName (create_index_on m i t kind parallel x place (wanted_in m.preferences requests))) none ∙ ap (create_index_on m i t kind parallel x place) (sym is)
 
 -- a plan of one effect is that of an equal one
 pub plan_as : (e f : Effect) (line : List ℕ) (c : Content) (plan : Plan) → e ≡ f → IsPlan f line c plan → IsPlan e line c plan

@@ -1,5 +1,8 @@
 pub mod Found
 pub mod IndexChecks
+pub mod IndexCallSteps
+pub mod OptimizeChecks
+pub mod OptimizeSteps
 pub mod SyncChecks
 pub mod SyncSteps
 pub mod AskSteps

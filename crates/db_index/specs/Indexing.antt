@@ -1,5 +1,5 @@
 -- What CREATE INDEX does.
-use Rattle.std.specs.Prelude.{ℕ, pos, negsuc, ◌-◌, ◌^◌, ◌≡◌, nat_le, Bool, true, false, not, ◌||◌, is_some, ◌<◌, List, [], ◌∷◌, length, Option, Some, None, Result, Vec, IfOk, IfSome, MatchOption, codes, refl}
+use Rattle.std.specs.Prelude.{ℕ, pos, negsuc, ◌-◌, ◌^◌, ◌≡◌, nat_le, Bool, true, false, not, ◌||◌, ◌&&◌, is_some, ◌<◌, List, [], ◌∷◌, length, Option, Some, None, Result, Vec, IfOk, IfSome, MatchOption, codes, refl}
 use Rattle.std.specs.declared.alloc.Global.{Global}
 use Rattle.std.specs.List.{list_any}
 use Rattle.std.specs.Option.{option_map}
@@ -16,13 +16,15 @@ use Rattle.ix_context.specs.declared.ranges.KeyRange.{KeyRange}
 use Rattle.ix_kinds.specs.Targets.{is_text_at}
 use Rattle.ix_kinds.specs.Rows.{row_keys_of, table_at}
 use Rattle.ix_kinds.specs.Statements.{with_index}
+use Rattle.st_parse.specs.declared.statements.Whole.{Whole}
+use Rattle.st_parse.specs.declared.statements.Whole.TheVariants.{Fits, Beyond}
 use Rattle.db_names.specs.declared.heads.IndexKind.{IndexKind}
 use Rattle.rule_index.specs.RuleIndexes.{new_rules, row_outcome}
 use Rattle.ix_indexes.specs.Indexes.{Index, AskedFor, kinds}
 use Rattle.db_state.specs.Lookups.{is_on_column}
-use Rattle.db_cond.specs.Faults.{UnknownName, ExistsAlready, WrongValues, BadValue, LimitReached}
+use Rattle.db_cond.specs.Faults.{UnknownName, ExistsAlready, WrongValues, BadValue, OutOfRange, LimitReached}
 use Rattle.db_state.specs.States.{StoreState, indexes_on, index_limit, named_thesauri}
-use Rattle.db_state.specs.Effects.{Effect, Does, refuse, refuse_by, with_found, Refused}
+use Rattle.db_state.specs.Effects.{Effect, Does, refuse, refuse_by, whole_count, with_found, Refused}
 use Rattle.db_state.specs.Columns.{column_place}
 use Rattle.ct_keep.specs.declared.keepers.KeepFault.{KeepFault}
 use Rattle.ct_keep.specs.Content.{Content}
@@ -55,15 +57,25 @@ asked_for Context w = inl all_rows
 asked_for Catalogue w = inr (inl w.subs)
 asked_for Rules w = nothing_more
 
+abbrev pub is_thread_count : Option ℕ → Bool
+is_thread_count None = false
+is_thread_count (Some n) = nat_le 1 n && nat_le n 16
+
+-- what PARALLEL gives is a number of threads from 1 to 16, or it isn't there
+abbrev pub is_degree : Option Whole → Bool
+is_degree None = true
+is_degree (Some n) = is_thread_count (whole_count n)
+
 -- The checks in their order: whether there is an index of the name or on the column, whether that is a column of texts, whether PARAMETERS is of its form and its sub-indexes
--- have columns that they may have, and whether a limit would be passed.
-abbrev pub check_index : Bool → Bool → Option Wanted → (Wanted → Bool) → List ℕ → (Wanted → Effect) → Effect
-check_index there texts found many i done =
-    refuse there (ExistsAlready i) (refuse (not texts) WrongValues (with_found found BadValue (λ w. refuse (many w) LimitReached (done w))))
+-- have columns that they may have, whether PARALLEL is in its range, and whether a limit would be passed.
+abbrev pub check_index : Bool → Bool → Option Wanted → Bool → (Wanted → Bool) → List ℕ → (Wanted → Effect) → Effect
+check_index there texts found ranged many i done =
+    refuse there (ExistsAlready i) (refuse (not texts) WrongValues (with_found found BadValue (λ w. refuse (not ranged) OutOfRange (refuse (many w) LimitReached (done w)))))
 
 -- the same by whether these are so
-abbrev pub check_flags : Bool → Bool → Bool → Bool → List ℕ → Effect → Effect
-check_flags there texts formed many i done = refuse there (ExistsAlready i) (refuse (not texts) WrongValues (refuse (not formed) BadValue (refuse many LimitReached done)))
+abbrev pub check_flags : Bool → Bool → Bool → Bool → Bool → List ℕ → Effect → Effect
+check_flags there texts formed ranged many i done =
+    refuse there (ExistsAlready i) (refuse (not texts) WrongValues (refuse (not formed) BadValue (refuse (not ranged) OutOfRange (refuse many LimitReached done))))
 
 abbrev pub index_created : List ℕ
 index_created = codes "Index created.\n"
@@ -88,9 +100,9 @@ passes_limit m t kind w = nat_le index_limit (length (indexes_on m.indexes t)) |
 abbrev pub is_index_taken : BuiltKind → StoreState → List ℕ → List ℕ → ℕ → Bool
 is_index_taken kind m i t place = is_some (get m.indexes i) || has_index_on (index_kind kind) m.indexes t place
 
-abbrev pub create_index_on : StoreState → List ℕ → List ℕ → BuiltKind → Table → ℕ → Option Wanted → Effect
-create_index_on m i t kind x place found =
-    check_index (is_index_taken kind m i t place) (is_text_at x.columns place) (fitting x.columns found) (passes_limit m t kind) i
+abbrev pub create_index_on : StoreState → List ℕ → List ℕ → BuiltKind → Option Whole → Table → ℕ → Option Wanted → Effect
+create_index_on m i t kind parallel x place found =
+    check_index (is_index_taken kind m i t place) (is_text_at x.columns place) (fitting x.columns found) (is_degree parallel) (passes_limit m t kind) i
     (λ w. Does (with_new_index m i t kind place w) index_created)
 
 -- no check holds
@@ -104,15 +116,16 @@ pub record IsFreeIndex (m : StoreState) (i t : List ℕ) (kind : BuiltKind) (x :
   pub sections : SectionsFit kind w
 
 -- what follows where the table and the column are there
-abbrev pub create_index_by : StoreState → List ℕ → List ℕ → BuiltKind → Option (List Request) → Table → ℕ → Effect
-create_index_by m i t kind requests x place =
-    refuse_by (first_unknown_name m.preferences x.columns requests) UnknownName (create_index_on m i t kind x place (wanted_in m.preferences requests))
+abbrev pub create_index_by : StoreState → List ℕ → List ℕ → BuiltKind → Option Whole → Option (List Request) → Table → ℕ → Effect
+create_index_by m i t kind parallel requests x place =
+    refuse_by (first_unknown_name m.preferences x.columns requests) UnknownName (create_index_on m i t kind parallel x place (wanted_in m.preferences requests))
 
-abbrev pub create_index : StoreState → List ℕ → List ℕ → List ℕ → BuiltKind → Option (List ℕ) → Effect
-create_index m i t column kind parameters =
+-- How many threads PARALLEL gives matters to nothing but the time that it takes.
+abbrev pub create_index : StoreState → List ℕ → List ℕ → List ℕ → BuiltKind → Option (List ℕ) → Option Whole → Effect
+create_index m i t column kind parameters parallel =
     with_found (get m.tables t) (UnknownName t) (λ (x : Table).
     with_found (column_place column x.columns) (UnknownName column) (λ (place : ℕ).
-    create_index_by m i t kind (requests_in kind parameters) x place))
+    create_index_by m i t kind parallel (requests_in kind parameters) x place))
 
 -- ---- what its functions give
 
@@ -131,9 +144,9 @@ PlansFreeIndex m c i t kind place w result =
     (x : Table) → place < 256 → IsFreeIndex m i t kind x place w → IfOk result (IsPlan (Does (with_new_index m i t kind place w) index_created) index_created c)
 
 -- what it comes to on a column, by its place, of a table with these columns
-abbrev pub PlansIndex : StoreState → Content → Table → List ℕ → List ℕ → BuiltKind → List Column → ℕ → Option Wanted → Result Plan KeepFault → Type 0
-PlansIndex m c x i t kind columns place found result =
-    place < 256 → columns ≡ x.columns → IfSome found (SectionsFit kind) → IfOk result (IsPlan (create_index_on m i t kind x place found) index_created c)
+abbrev pub PlansIndex : StoreState → Content → Table → List ℕ → List ℕ → BuiltKind → Option Whole → List Column → ℕ → Option Wanted → Result Plan KeepFault → Type 0
+PlansIndex m c x i t kind parallel columns place found result =
+    place < 256 → columns ≡ x.columns → IfSome found (SectionsFit kind) → IfOk result (IsPlan (create_index_on m i t kind parallel x place found) index_created c)
 
 -- the columns of a table that were read, if it is there; and none where it isn't
 abbrev pub columns_read : Option (Vec Column Global) → Option (List Column)
@@ -144,10 +157,10 @@ columns_or_none None = []
 columns_or_none (Some cs) = cs
 
 -- What the statement comes to, where the table has these columns, if it is there, and PARAMETERS asks for this.
-abbrev pub PlansAsked : StoreState → Content → List ℕ → List ℕ → List ℕ → BuiltKind → Option (List Column) → Option (List ℕ) → Option Wanted → Result Plan KeepFault → Type 0
-PlansAsked m c i t column kind columns unknown found result =
-    (parameters : Option (List ℕ)) → columns ≡ option_map (λ (x : Table). x.columns) (get m.tables t) → AsksForIndex m.preferences (columns_or_none columns) (requests_in kind parameters) (record { unknown = unknown; wanted = found })
-    → IfOk result (IsPlan (create_index m i t column kind parameters) index_created c)
+abbrev pub PlansAsked : StoreState → Content → List ℕ → List ℕ → List ℕ → BuiltKind → Option Whole → Option (Vec Column Global) → Option (List ℕ) → Option Wanted → Result Plan KeepFault → Type 0
+PlansAsked m c i t column kind parallel read unknown found result =
+    (parameters : Option (List ℕ)) → columns_read read ≡ option_map (λ (x : Table). x.columns) (get m.tables t) → AsksForIndex m.preferences (columns_or_none (columns_read read)) (requests_in kind parameters) (record { unknown = unknown; wanted = found })
+    → IfOk result (IsPlan (create_index m i t column kind parameters parallel) index_created c)
 
 -- ---- computed examples: an index on a column of a table with the columns id, body and price; the body, a CLOB, is at the place 1
 
@@ -160,23 +173,30 @@ by_price = as_wanted default_prefs ((codes "price" ∷ []) ∷ [])
 abbrev of_a_text : Wanted
 of_a_text = as_wanted default_prefs ((codes "body" ∷ []) ∷ [])
 
-a_good_index : (done : Wanted → Effect) → check_index false (is_text_at docs_columns 1) (fitting docs_columns (Some by_price)) (λ w. false) (codes "ci") done ≡ done by_price
+a_good_index : (done : Wanted → Effect) → check_index false (is_text_at docs_columns 1) (fitting docs_columns (Some by_price)) true (λ w. false) (codes "ci") done ≡ done by_price
 a_good_index done = refl
 
-there_and_on_a_number : (done : Wanted → Effect) → check_index true (is_text_at docs_columns 2) None (λ w. true) (codes "di") done ≡ Refused (ExistsAlready (codes "di"))
+there_and_on_a_number : (done : Wanted → Effect) → check_index true (is_text_at docs_columns 2) None true (λ w. true) (codes "di") done ≡ Refused (ExistsAlready (codes "di"))
 there_and_on_a_number done = refl
 
-on_a_number : (done : Wanted → Effect) → check_index false (is_text_at docs_columns 2) None (λ w. true) (codes "di") done ≡ Refused WrongValues
+on_a_number : (done : Wanted → Effect) → check_index false (is_text_at docs_columns 2) None true (λ w. true) (codes "di") done ≡ Refused WrongValues
 on_a_number done = refl
 
-of_no_form : (done : Wanted → Effect) → check_index false (is_text_at docs_columns 1) None (λ w. true) (codes "di") done ≡ Refused BadValue
+of_no_form : (done : Wanted → Effect) → check_index false (is_text_at docs_columns 1) None false (λ w. true) (codes "di") done ≡ Refused BadValue
 of_no_form done = refl
 
-of_a_clob : (done : Wanted → Effect) → check_index false (is_text_at docs_columns 1) (fitting docs_columns (Some of_a_text)) (λ w. true) (codes "ci") done ≡ Refused BadValue
+of_a_clob : (done : Wanted → Effect) → check_index false (is_text_at docs_columns 1) (fitting docs_columns (Some of_a_text)) false (λ w. true) (codes "ci") done ≡ Refused BadValue
 of_a_clob done = refl
 
-one_index_too_many : (done : Wanted → Effect) → check_index false (is_text_at docs_columns 1) (fitting docs_columns (Some by_defaults)) (λ w. true) (codes "di") done ≡ Refused LimitReached
+one_index_too_many : (done : Wanted → Effect) → check_index false (is_text_at docs_columns 1) (fitting docs_columns (Some by_defaults)) true (λ w. true) (codes "di") done ≡ Refused LimitReached
 one_index_too_many done = refl
+
+-- PARALLEL is looked at before the limits
+seventeen_threads : (done : Wanted → Effect) → check_index false (is_text_at docs_columns 1) (fitting docs_columns (Some by_defaults)) (is_degree (Some (Fits (pos 17)))) (λ w. true) (codes "di") done ≡ Refused OutOfRange
+seventeen_threads done = refl
+
+sixteen_threads : (is_degree (Some (Fits (pos 16))) ≡ true) × (is_degree (Some (Fits (pos 0))) ≡ false) × (is_degree (Some Beyond) ≡ false)
+sixteen_threads = (refl, refl, refl)
 
 -- a catalogue and a rule index may have any number of rows
 no_row_too_many : (m : StoreState) (t : List ℕ) (w : Wanted) → has_too_many_rows m t Catalogue w ≡ false
@@ -191,7 +211,7 @@ each_rule_settled : (m : StoreState) (x : Table) (w : Wanted)
 each_rule_settled m x w = refl
 
 -- the first name that isn't there comes before all other checks
-unknown_column_first : (m : StoreState) (i t : List ℕ) (requests : Option (List Request)) (x : Table) (place : ℕ) → first_unknown_name m.preferences x.columns requests ≡ Some (codes "nope")
-    → create_index_by m i t Catalogue requests x place ≡ Refused (UnknownName (codes "nope"))
-unknown_column_first m i t requests x place is =
-    ap (λ o. refuse_by o UnknownName (create_index_on m i t Catalogue x place (wanted_in m.preferences requests))) is
+unknown_column_first : (m : StoreState) (i t : List ℕ) (parallel : Option Whole) (requests : Option (List Request)) (x : Table) (place : ℕ)
+    → first_unknown_name m.preferences x.columns requests ≡ Some (codes "nope") → create_index_by m i t Catalogue parallel requests x place ≡ Refused (UnknownName (codes "nope"))
+unknown_column_first m i t parallel requests x place is =
+    ap (λ o. refuse_by o UnknownName (create_index_on m i t Catalogue parallel x place (wanted_in m.preferences requests))) is

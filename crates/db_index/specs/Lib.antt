@@ -1,7 +1,9 @@
 pub mod Kinds
 pub mod Tokenizing
 pub mod Thesauri
+pub mod IndexCalls
 pub mod Syncing
+pub mod Optimizing
 pub mod Asking
 pub mod Indexing
 pub mod Dropping

@@ -1,23 +1,27 @@
 -- What CTX_DDL.SYNC_INDEX does.
-use Rattle.std.specs.Prelude.{ℕ, pos, ◌==◌, Bool, true, false, not, ◌||◌, ◌&&◌, is_some, List, [], ◌∷◌, Option, Some, None, codes, ◌≡◌, refl, MatchOption}
-use Rattle.std.specs.Option.{option_map}
+use Rattle.std.specs.Prelude.{ℕ, pos, ◌==◌, Bool, true, false, not, ◌||◌, ◌&&◌, List, [], ◌∷◌, Option, Some, None, Result, IfOk, codes, ◌≡◌, refl, MatchOption}
 use Rattle.std.specs.Char.{to_ascii_lowercase, is_ascii_digit}
 use Rattle.std.specs.FinMap.{get}
 use Rattle.std.proofs.Common.{inr}
 use Rattle.st_parse.specs.declared.statements.Arg.{Arg}
 use Rattle.st_parse.specs.declared.statements.Arg.TheVariants.{Text as TextArg, Number as NumberArg}
 use Rattle.db_call.specs.Arguments.{are_texts, argument_name}
+use Rattle.ct_keep.specs.Content.{Change, Content}
+use Rattle.ct_keep.specs.KeeperViews.{KeeperView}
+use Rattle.ct_keep.specs.declared.keepers.KeepFault.{KeepFault}
+use Rattle.ct_entry.specs.Keys.{Key, at}
 use Rattle.ct_entry.specs.Changes.{spell}
 use Rattle.tb_table.specs.Tables.{Table}
 use Rattle.ix_kinds.specs.Rows.{table_at}
-use Rattle.ix_kinds.specs.Statements.{indexes_after_sync}
+use Rattle.ix_kinds.specs.Statements.{indexes_after_sync, place_of}
 use Rattle.rule_index.specs.RuleIndexes.{RuleIndex, all_settled, row_outcome}
 use Rattle.ix_indexes.specs.Indexes.{Index, as_rules, kinds}
 use Rattle.db_names.specs.declared.heads.IndexKind.{IndexKind}
 use Rattle.db_names.specs.declared.heads.IndexKind.TheVariants.{Context, Catalogue, Rules}
 use Rattle.db_cond.specs.Faults.{UnknownName, NoIndexOfKind, WrongValues, BadValue, LimitReached}
-use Rattle.db_state.specs.States.{StoreState, named_thesauri}
-use Rattle.db_state.specs.Effects.{Effect, Refused, Does, refuse, refuse_by, with_found}
+use Rattle.db_index.specs.IndexCalls.{index_call, kind_named}
+use Rattle.db_state.specs.States.{StandsForState, StoreState, named_thesauri}
+use Rattle.db_state.specs.Effects.{Effect, Refused, Does, refuse, with_found}
 use Rattle.st_parse.specs.declared.statements.Whole.TheVariants.{Fits}
 use Rattle.db_state.specs.Lines.{call_done}
 
@@ -42,16 +46,6 @@ abbrev pub is_bad_size : List Arg → Bool
 is_bad_size (TextArg name ∷ TextArg memory ∷ []) = not (is_memory_size memory)
 is_bad_size args = false
 
--- the name, where no index has it
-abbrev pub unknown_name : Bool → Option (List ℕ) → Option (List ℕ)
-unknown_name true name = None
-unknown_name false name = name
-
--- the kind of the index that has the name
-abbrev pub kind_named : StoreState → Option (List ℕ) → Option IndexKind
-kind_named m None = None
-kind_named m (Some i) = option_map (λ (x : Index). kinds.kind x.body) (get m.indexes i)
-
 -- A catalogue is not synchronised, since no row waits in it.
 abbrev pub is_other_kind : Option IndexKind → Bool
 is_other_kind None = false
@@ -67,15 +61,6 @@ is_rule_index kind = false
 abbrev pub synced_kind : Bool → IndexKind
 synced_kind true = Rules
 synced_kind false = Context
-
--- the checks in their order, by the name that no index has, if it is one, and whether the index that has it is of another kind
-abbrev pub check_sync : Option (List ℕ) → Bool → List Arg → Effect → Effect
-check_sync unknown other args done =
-    refuse_by unknown UnknownName
-    (refuse other NoIndexOfKind
-    (refuse (not (are_sync_args args)) WrongValues
-    (refuse (is_bad_size args) BadValue
-    done)))
 
 -- there are too few numbers for the rows that wait
 abbrev pub has_too_many : Index → Bool
@@ -95,16 +80,25 @@ sync_named m (Some i) = with_found (get m.indexes i) (UnknownName i) (λ (x : In
 
 -- by the kind of the index that the first argument names
 abbrev pub sync_as_kind : Option IndexKind → StoreState → Option (List ℕ) → List Arg → Effect
-sync_as_kind kind m name args = check_sync (unknown_name (is_some kind) name) (is_other_kind kind) args (sync_named m name)
+sync_as_kind kind m name args = index_call is_other_kind (are_sync_args args) (is_bad_size args) kind name (sync_named m name)
 
 abbrev pub sync_index : StoreState → List Arg → Effect
 sync_index m args = sync_as_kind (kind_named m (argument_name 0 args)) m (argument_name 0 args) args
 
 -- ---- what its functions give
 
+-- what is put: the entry of the index ends in the same place as before
+abbrev pub its_sync_changes : StoreState → Content → List ℕ → Index → List (Key × Option (List ℕ))
+its_sync_changes m c i x = kinds.sync_changes (named_thesauri m) (table_at m.tables x.table) i x (place_of kinds (at c) i x)
+
 -- the changes of the synchronisation; none where the index would need more documents than there are numbers
-abbrev pub MakesSync : List ℕ → StoreState → Index → Option (List (List ℕ × Option (List ℕ))) → Type 0
-MakesSync i m x batch = MatchOption batch (has_too_many x ≡ true) (λ changes. (has_too_many x ≡ false) × (changes ≡ spell (kinds.sync_changes (named_thesauri m) (table_at m.tables x.table) i x)))
+abbrev pub MakesSync : List ℕ → StoreState → Content → Index → Option (List Change) → Type 0
+MakesSync i m c x batch = MatchOption batch (has_too_many x ≡ true) (λ changes. (has_too_many x ≡ false) × (changes ≡ spell (its_sync_changes m c i x)))
+
+-- of the index of this name, where there is one and it is of this kind
+abbrev pub MakesSyncOf : {K : Type 0} → (K → KeeperView) → K → IndexKind → List ℕ → Result (Option (List Change)) KeepFault → Type 0
+MakesSyncOf view old kind i result =
+    (m : StoreState) (c : Content) (x : Index) → (view old).content ≡ Some c → StandsForState c m → get m.indexes i ≡ Some x → kinds.kind x.body ≡ kind → IfOk result (MakesSync i m c x)
 
 -- computed examples
 sixteen_megabytes : is_memory_size (codes "16m") ≡ true
@@ -127,8 +121,8 @@ catalogue_and_too_many : (m : StoreState)
 catalogue_and_too_many m = refl
 
 -- a rule index is synchronised, however many rules wait: each is read by the thesauri of the state
-rules_pass : (done : Effect) → check_sync (unknown_name true (Some (codes "ri"))) (is_other_kind (Some Rules)) (TextArg (codes "ri") ∷ []) done ≡ done
-rules_pass done = refl
+rules_pass : (m : StoreState) → sync_as_kind (Some Rules) m (Some (codes "ri")) (TextArg (codes "ri") ∷ []) ≡ sync_named m (Some (codes "ri"))
+rules_pass m = refl
 
 rules_settled : (m : StoreState) (t : Table) (x : RuleIndex) → kinds.after_sync (named_thesauri m) t (as_rules x) ≡ inr (inr (all_settled (row_outcome (named_thesauri m) t x.column x.prefs) x.body))
 rules_settled m t x = refl

@@ -5,3 +5,5 @@ pub mod RuleKeys
 pub mod Created
 pub mod NewMarks
 pub mod Dropped
+pub mod ShapedChanges
+pub mod Optimized

@@ -9,14 +9,13 @@ ghost use Rattle.ct_entry.specs.declared.kinds.Kind.TheVariants as entry;
 ghost use Rattle.ct_entry.specs.Kinds.{code};
 ghost use Rattle.tx_settings.specs.Attributes.{can_be_set};
 ghost use Rattle.db_state.specs.States.{OverStates, OverNamedTable, indexes_on, index_limit, Sees};
-ghost use Rattle.db_state.specs.Effects.{Effect, Checks};
 ghost use Rattle.db_index.specs.Asking.{CanBeCreated};
-ghost use Rattle.db_index.specs.Indexing.{MakesIndex, MakesOver, PlansAsked, PlansFreeIndex, PlansIndex, all_rows, check_flags, columns_or_none as columns_of_table, columns_read, create_index as create_index_effect, has_index_on as column_has_index, index_made, is_index_taken, nothing_more};
-ghost use Rattle.ix_kinds.specs.Targets.{is_text_at as text_at, is_text_sort as sort_of_texts};
+ghost use Rattle.db_index.specs.Indexing.{MakesIndex, MakesOver, PlansAsked, PlansFreeIndex, PlansIndex, all_rows, columns_or_none as columns_of_table, columns_read, create_index as create_index_effect, has_index_on as column_has_index, index_made, is_index_taken, nothing_more};
 ghost use Rattle.db_state.specs.Plans.{IsStorePlan, Replies};
 ghost use Rattle.db_state.specs.Shapes.{AcceptsStatements, AreStoreChanges};
 
 use crate::asking::{Asked, Wanted, read_asked};
+use crate::index_checks::{degree_by, index_fault, is_degree, is_text_at};
 use crate::kinds::{BuiltKind, index_kind};
 use crate::sub_columns::is_fitting;
 use crate::thesauri::all_thesauri;
@@ -30,38 +29,15 @@ use db_state::{
 };
 use ix_context::{ContextFault, KeyRange};
 use rule_index::Rules;
+use st_parse::Whole;
 use std::alloc::Global;
 use std::thread::Threads;
-use tb_table::{Column, Sort, Target};
+use tb_table::{Column, Target};
 use tx_sets::keep_names;
 use tx_settings::Prefs;
 
 /// How many indexes a table has at most.
 const INDEX_LIMIT: usize = 16;
-
-/// Whether the type is one of texts.
-fn is_text_sort(sort: Sort) -> bool
-    ensures { result ≡ sort_of_texts sort }
-{
-    match sort {
-        Sort::Number => false,
-        Sort::Varchar2(_) | Sort::Clob => true,
-    }
-}
-
-/// Whether a column of texts stands at a place.
-fn is_text_at(columns: &[Column], place: usize) -> bool
-    ensures { result ≡ text_at columns.now place }
-{
-    let mut before = place;
-    for column in columns {
-        if before == 0 {
-            return is_text_sort(column.sort);
-        }
-        before -= 1;
-    }
-    false
-}
 
 /// Whether there is an index of a kind on a column, by its place.
 fn has_index_on<K: Keeper>(
@@ -118,33 +94,6 @@ fn has_most_indexes<K: Keeper>(
 {
     let indexes = indexes_of(alloc, keeper, table)?;
     Ok(are_most(&indexes))
-}
-
-/// The first check that fails.
-fn index_fault<'a>(
-    there: bool,
-    texts: bool,
-    formed: bool,
-    many: bool,
-    index: &'a Name,
-) -> Option<Fault<'a>>
-    ensures checks { (done : Effect) → Checks result (check_flags there texts formed many index.now done) done }
-    ensures formed { result ≡ None → formed ≡ true }
-{
-    let name = index.as_str();
-    if there {
-        return Some(Fault::ExistsAlready(name));
-    }
-    if !texts {
-        return Some(Fault::WrongValues);
-    }
-    if !formed {
-        return Some(Fault::BadValue);
-    }
-    if many {
-        return Some(Fault::LimitReached);
-    }
-    None
 }
 
 /// The changes of a new CONTEXT index; None where it would need more documents than there are numbers.
@@ -299,10 +248,11 @@ fn plan_on<'a, R: Threads + Sync, K: Keeper>(
     columns: &[Column],
     place: usize,
     wanted: Option<Wanted>,
+    parallel: &Option<Whole>,
 ) -> Result<Plan<'a>, KeepFault>
     requires ready { (K.view keeper.old).ready }
     requires can { IfSome wanted CanBeCreated }
-    ensures plan { OverNamedTable K.view keeper.old table.now (λ m c x. PlansIndex m c x index.now table.now kind columns.now place wanted result) }
+    ensures plan { OverNamedTable K.view keeper.old table.now (λ m c x. PlansIndex m c x index.now table.now kind parallel.now columns.now place wanted result) }
     ensures entries { IfOk result IsStorePlan }
     ensures reads { OnlyReads K.view keeper.old keeper.new result }
 {
@@ -312,6 +262,7 @@ fn plan_on<'a, R: Threads + Sync, K: Keeper>(
         there,
         is_text_at(columns, place),
         is_fitting(&wanted, columns),
+        is_degree(parallel),
         many,
         index,
     ) {
@@ -346,10 +297,11 @@ fn index_plan<'a, R: Threads + Sync, K: Keeper>(
     columns: &Option<Vec<Column>>,
     unknown: &'a Option<Name>,
     wanted: Option<Wanted>,
+    parallel: &Option<Whole>,
 ) -> Result<Plan<'a>, KeepFault>
     requires ready { (K.view keeper.old).ready }
     requires can { IfSome wanted CanBeCreated }
-    ensures plan { OverStates K.view keeper.old (λ m c. PlansAsked m c index.now table.now column.now kind (columns_read columns.now) unknown.now wanted result) }
+    ensures plan { OverStates K.view keeper.old (λ m c. PlansAsked m c index.now table.now column.now kind parallel.now columns.now unknown.now wanted result) }
     ensures entries { IfOk result IsStorePlan }
     ensures reads { OnlyReads K.view keeper.old keeper.new result }
 {
@@ -363,7 +315,7 @@ fn index_plan<'a, R: Threads + Sync, K: Keeper>(
         return Ok(Plan::Refused(Fault::UnknownName(name.as_str())));
     }
     plan_on(
-        rt, alloc, degree, keeper, kind, index, table, columns, place, wanted,
+        rt, alloc, degree, keeper, kind, index, table, columns, place, wanted, parallel,
     )
 }
 
@@ -373,7 +325,8 @@ fn index_plan<'a, R: Threads + Sync, K: Keeper>(
 /// as it is when these change later. The first of these that holds: E11 where there is no such table, column, preference or index set,
 /// or a column of the index set is not one of the table; E12 where the index is there, or the column has one of the kind; E13 where the
 /// column is a NUMBER; E30 where PARAMETERS isn't of the form that the kind takes, or a column of the index set is neither a NUMBER nor
-/// a VARCHAR2 of at most 100; E31 where the table has 16 indexes. At most `degree` threads may read the texts of a CONTEXT index.
+/// a VARCHAR2 of at most 100; E22 where PARALLEL isn't from 1 to 16; E31 where the table has 16 indexes. So many threads as PARALLEL says,
+/// and `degree` where it isn't there, read the texts of a CONTEXT index at most.
 ///
 /// Its cost is that of copying the preferences, the length of the entries of all indexes, and what the texts hold, times a logarithm,
 /// for each sub-index; for a rule index also that of loading all thesauri, once. All changes are in memory until the commit, and so are
@@ -388,9 +341,10 @@ pub fn create_index<R: Threads + Sync, K: Keeper>(
     column: &Name,
     kind: BuiltKind,
     parameters: &Option<Text>,
+    parallel: &Option<Whole>,
 ) -> Result<Vec<u8>, KeepFault>
     requires { AcceptsStatements (K.view keeper.old) }
-    ensures { Replies K.view keeper.old keeper.new result (λ m. create_index_effect m index.now table.now column.now kind parameters.now) index_made }
+    ensures { Replies K.view keeper.old keeper.new result (λ m. create_index_effect m index.now table.now column.now kind parameters.now parallel.now) index_made }
 {
     let columns = match table_columns(alloc, keeper, table) {
         Ok(columns) => columns,
@@ -401,8 +355,9 @@ pub fn create_index<R: Threads + Sync, K: Keeper>(
         Err(fault) => return Err(fault),
     };
     let Asked { unknown, wanted } = asked;
+    let degree = degree_by(parallel, degree);
     match index_plan(
-        rt, alloc, degree, keeper, kind, index, table, column, &columns, &unknown, wanted,
+        rt, alloc, degree, keeper, kind, index, table, column, &columns, &unknown, wanted, parallel,
     ) {
         Ok(plan) => carry_out(alloc, keeper, plan, b"Index created.\n"),
         Err(fault) => Err(fault),

@@ -2,24 +2,21 @@
 #![tactic(auto, using(ct_keep::specs::laws::Composing::reads_on, ct_keep::specs::laws::Composing::reads_short, ct_keep::specs::laws::Composing::accepts_on))]
 
 ghost use Rattle.std.specs.Prelude.{◌≡◌, IfOk, IfSome, Some, is_some};
-ghost use Rattle.std.specs.Option.{option_map};
 ghost use Rattle.ct_keep.specs.KeeperViews.{OnlyReads};
 ghost use Rattle.db_call.specs.Arguments.{argument_name as name_there};
-ghost use Rattle.db_state.specs.States.{OverIndex, Sees};
-ghost use Rattle.db_state.specs.Effects.{Effect, Checks};
-ghost use Rattle.db_index.specs.Syncing.{MakesSync, are_sync_args as sync_args, check_sync, is_bad_size as bad_size, is_memory_size as memory_size, is_other_kind as other_kind, is_rule_index as rule_index_kind, is_unit as unit_letter, kind_named as kind_of_named, sync_index as sync_effect, synced_kind, unknown_name as name_unknown};
-ghost use Rattle.ix_indexes.specs.Indexes.{kinds};
+ghost use Rattle.db_index.specs.Syncing.{MakesSyncOf, are_sync_args as sync_args, is_bad_size as bad_size, is_memory_size as memory_size, is_other_kind as other_kind, is_rule_index as rule_index_kind, is_unit as unit_letter, sync_index as sync_effect, synced_kind};
 ghost use Rattle.db_names.specs.declared.heads.IndexKind.TheVariants as kind;
 ghost use Rattle.db_state.specs.Lines.{call_done};
 ghost use Rattle.db_state.specs.Plans.{IsStorePlan, Plans, Replies, line_for_all};
 ghost use Rattle.db_state.specs.Shapes.{AcceptsStatements, AreStoreChanges};
 
+use crate::index_calls::{index_call_fault, kind_named, unknown_name};
 use crate::thesauri::all_thesauri;
 use ct_base::Name;
 use ct_keep::{Batch, KeepFault, Keeper};
 use db_call::{are_texts, name_at};
 use db_cond::Fault;
-use db_names::{IndexHead, IndexKind, index_of};
+use db_names::IndexKind;
 use db_state::{Plan, carry_out};
 use ix_context::{ContextFault, sync};
 use rule_index::Rules;
@@ -71,16 +68,6 @@ fn is_bad_size(args: &[Arg]) -> bool
     }
 }
 
-/// The name, where no index has it.
-fn unknown_name(there: bool, name: &Option<Name>) -> Option<&str>
-    ensures { option_map (λ n. n.now) result ≡ name_unknown there name.now }
-{
-    match name {
-        Some(name) if !there => Some(name.as_str()),
-        _ => None,
-    }
-}
-
 /// Whether this is the kind of an index that isn't synchronised, since no row waits in it.
 fn is_other_kind(kind: Option<IndexKind>) -> bool
     ensures { result ≡ other_kind kind }
@@ -101,52 +88,6 @@ fn is_rule_index(kind: Option<IndexKind>) -> bool
     }
 }
 
-/// The first check that fails, by the name that no index has, and whether the index that has it is of another kind.
-fn sync_fault<'a>(unknown: Option<&'a str>, other: bool, args: &[Arg]) -> Option<Fault<'a>>
-    ensures { (done : Effect) → Checks result (check_sync (option_map (λ n. n.now) unknown.entry) other args.now done) done }
-{
-    if let Some(name) = unknown {
-        return Some(Fault::UnknownName(name));
-    }
-    if other {
-        return Some(Fault::NoIndexOfKind);
-    }
-    if !are_sync_args(args) {
-        return Some(Fault::WrongValues);
-    }
-    if is_bad_size(args) {
-        return Some(Fault::BadValue);
-    }
-    None
-}
-
-/// The kind in a head, if there is one.
-fn kind_in(head: &Option<IndexHead>) -> Option<IndexKind>
-    ensures { result ≡ option_map (λ h. h.kind) head.now }
-{
-    match head {
-        None => None,
-        Some(head) => Some(head.kind),
-    }
-}
-
-/// The kind of the index that has the name, if there is one.
-fn kind_named<K: Keeper>(
-    alloc: Global,
-    keeper: &mut K,
-    name: &Option<Name>,
-) -> Result<Option<IndexKind>, KeepFault>
-    requires { (K.view keeper.old).ready }
-    ensures kind { Sees K.view keeper.old result (λ m found. found ≡ kind_of_named m name.now) }
-    ensures reads { OnlyReads K.view keeper.old keeper.new result }
-{
-    let Some(index) = name else {
-        return Ok(None);
-    };
-    let head = index_of(alloc, keeper, index)?;
-    Ok(kind_in(&head))
-}
-
 /// The changes of the synchronisation of a CONTEXT index; None where it would need more documents than there are numbers.
 fn synced_context<R: Threads + Sync, K: Keeper>(
     rt: &R,
@@ -156,7 +97,7 @@ fn synced_context<R: Threads + Sync, K: Keeper>(
     index: &Name,
 ) -> Result<Option<Batch>, KeepFault>
     requires { (K.view keeper.old).ready }
-    ensures changes { OverIndex K.view keeper.old index.now (λ m x. kinds.kind x.body ≡ kind.Context → IfOk result (MakesSync index.now m x)) }
+    ensures changes { MakesSyncOf K.view keeper.old kind.Context index.now result }
     ensures entries { IfOk result (λ found. IfSome found AreStoreChanges) }
     ensures reads { OnlyReads K.view keeper.old keeper.new result }
 {
@@ -180,7 +121,7 @@ fn synced<R: Threads + Sync, K: Keeper>(
     index: &Name,
 ) -> Result<Option<Batch>, KeepFault>
     requires { (K.view keeper.old).ready }
-    ensures changes { OverIndex K.view keeper.old index.now (λ m x. kinds.kind x.body ≡ synced_kind rules → IfOk result (MakesSync index.now m x)) }
+    ensures changes { MakesSyncOf K.view keeper.old (synced_kind rules) index.now result }
     ensures entries { IfOk result (λ found. IfSome found AreStoreChanges) }
     ensures reads { OnlyReads K.view keeper.old keeper.new result }
 {
@@ -210,7 +151,9 @@ fn sync_plan<'a, R: Threads + Sync, K: Keeper>(
 {
     let kind = kind_named(alloc, keeper, name)?;
     let unknown = unknown_name(kind.is_some(), name);
-    if let Some(fault) = sync_fault(unknown, is_other_kind(kind), args) {
+    let shaped = are_sync_args(args);
+    let bad = is_bad_size(args);
+    if let Some(fault) = index_call_fault(unknown, is_other_kind(kind), shaped, bad) {
         return Ok(Plan::Refused(fault));
     }
     let Some(index) = name else {

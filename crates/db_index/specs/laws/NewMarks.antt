@@ -12,7 +12,7 @@ use Rattle.ct_keep.specs.Content.{Content, after}
 use Rattle.ct_base.specs.Names.{IsName, is_kept}
 use Rattle.ct_entry.specs.Keys.{Key, at, same_list}
 use Rattle.ct_entry.specs.laws.Keys.{list_from_same, list_same}
-use Rattle.ct_entry.specs.Maps.{Names, altered}
+use Rattle.ct_entry.specs.Maps.{Names, alter, altered}
 use Rattle.ct_entry.specs.Changes.{AllOf, AreChanges, spell, view}
 use Rattle.tb_table.specs.Tables.{Table, Tables}
 use Rattle.tb_table.specs.Rules.{IsTable}
@@ -21,9 +21,10 @@ use Rattle.tx_sets.specs.Sets.{are_sub_indexes}
 use Rattle.ix_kinds.specs.Rows.{table_at, table_or_none}
 use Rattle.ix_kinds.specs.Targets.{IsTarget, is_text_at}
 use Rattle.ix_kinds.specs.Indextypes.{IndexOf, with_body}
-use Rattle.ix_kinds.specs.Standing.{is_of_indexes}
-use Rattle.ix_kinds.specs.IndextypeLaws.{is_its}
-use Rattle.ix_kinds.specs.Statements.{index_after_sync, indexes_after_sync, new_index, with_index, IsFreeColumn}
+use Rattle.ix_kinds.specs.Standing.{HasEntry, is_of_indexes}
+use Rattle.ix_kinds.specs.laws.Standing.{place_is}
+use Rattle.ix_kinds.specs.IndextypeLaws.{AreOwnChanges, is_its}
+use Rattle.ix_kinds.specs.Statements.{index_after_sync, indexes_after_sync, new_index, place_of, with_index, IsFreeColumn}
 use Rattle.ix_kinds.specs.laws.Syncs.{sync_stands, sync_keeps}
 use Rattle.ix_kinds.specs.laws.Creates.{create_stands, create_keeps}
 use Rattle.db_names.specs.declared.heads.IndexKind.{IndexKind}
@@ -31,7 +32,7 @@ use Rattle.db_names.specs.Heads.{index_code}
 use Rattle.db_state.specs.Lookups.{is_on_column}
 use Rattle.ix_context.specs.Indexes.{ContextIndex, mark_limit, waiting_rows}
 use Rattle.ix_context.specs.laws.Well.{AreIndexChanges, are_changes, index_changes_sync}
-use Rattle.ix_indexes.specs.Indexes.{Body, Defined, Index, as_index, kinds}
+use Rattle.ix_indexes.specs.Indexes.{Body, Defined, Index, StandsUnder, as_index, kinds}
 use Rattle.ix_indexes.specs.laws.Indexes.{context_is, kind_is, kinds_laws}
 use Rattle.ix_kinds.specs.laws.Tables.{table_is}
 use Rattle.db_index.specs.declared.kinds.BuiltKind.{BuiltKind}
@@ -39,7 +40,7 @@ use Rattle.db_index.specs.declared.kinds.BuiltKind.TheVariants.{Context, Catalog
 use Rattle.db_index.specs.declared.asking.Wanted.{Wanted}
 use Rattle.db_index.specs.Kinds.{index_kind}
 use Rattle.db_index.specs.Asking.{are_sub_columns}
-use Rattle.db_index.specs.Syncing.{has_too_many, with_synced}
+use Rattle.db_index.specs.Syncing.{has_too_many, its_sync_changes, with_synced}
 use Rattle.db_index.specs.Indexing.{asked_for, has_index_on, has_too_many_rows, target, with_new_index, IsFreeIndex}
 use Rattle.db_state.specs.laws.ShortRows.{rows_frame, rows_put}
 use Rattle.db_state.specs.States.{StoreState, StandsForState, HasShortRows, indexes_on, index_limit, named_thesauri}
@@ -54,16 +55,18 @@ use Rattle.ct_base.specs.laws.Options.{no_value as no_some}
 room_left : (x : Index) → has_too_many x ≡ false → kinds.can_sync x ≡ true
 room_left x h = not_false (kinds.can_sync x) h
 
--- a table has as many indexes as before
-few_synced : (d : Defined) (ts : Tables) (xs : Names Index) (i : List ℕ) (x : Index) → get xs i ≡ Some x → (t : List ℕ) → length (indexes_on (indexes_after_sync kinds d ts i xs) t) ≡ length (indexes_on xs t)
-few_synced d ts xs i x there t =
-    let is : indexes_after_sync kinds d ts i xs ≡ insert xs i (index_after_sync kinds d ts x) = ap (altered xs i (index_after_sync kinds d ts)) there in
-    let counts = count_insert (slice_cmp nat_cmp) (λ (y : Index). same_list y.table t) nat_list_cmp_total xs i (index_after_sync kinds d ts x) in
-    ap (λ (ys : Names Index). length (indexes_on ys t)) is ∙ alike (get xs i) there counts
+-- where an index is altered that stays on its table, a table has as many as before
+pub few_altered : (change : Index → Index) → ((x : Index) → (change x).table ≡ x.table) → (xs : Names Index) (i : List ℕ) (x : Index) → get xs i ≡ Some x
+    → (t : List ℕ) → length (indexes_on (alter xs i change) t) ≡ length (indexes_on xs t)
+few_altered change same_table xs i x there t =
+    let is : alter xs i change ≡ insert xs i (change x) = ap (altered xs i change) there in
+    let counts = count_insert (slice_cmp nat_cmp) (λ (y : Index). same_list y.table t) nat_list_cmp_total xs i (change x) in
+    let table = ap (λ (u : List ℕ). one (same_list u t)) (same_table x) in
+    ap (λ (ys : Names Index). length (indexes_on ys t)) is ∙ alike (get xs i) there (omega (arith, counts, table))
   where
     alike : (o : Option Index) → o ≡ Some x
-        → length (indexes_on (insert xs i (index_after_sync kinds d ts x)) t) + counted (slice_cmp nat_cmp) (λ (y : Index). same_list y.table t) o ≡ length (indexes_on xs t) + one (same_list x.table t)
-        → length (indexes_on (insert xs i (index_after_sync kinds d ts x)) t) ≡ length (indexes_on xs t)
+        → length (indexes_on (insert xs i (change x)) t) + counted (slice_cmp nat_cmp) (λ (y : Index). same_list y.table t) o ≡ length (indexes_on xs t) + one (same_list x.table t)
+        → length (indexes_on (insert xs i (change x)) t) ≡ length (indexes_on xs t)
     alike None e counts = cc
     alike (Some y) e counts =
         let same : counted {K = List ℕ} (slice_cmp nat_cmp) (λ (z : Index). same_list z.table t) (Some y) ≡ one (same_list x.table t) = ap (counted {K = List ℕ} (slice_cmp nat_cmp) (λ (z : Index). same_list z.table t)) e in
@@ -72,10 +75,20 @@ few_synced d ts xs i x there t =
 module _ (c : Content) (m : StoreState) (i : List ℕ) (stands : StandsForState c m) where
   module _ (x : Index) (there : get m.indexes i ≡ Some x) (room : has_too_many x ≡ false) where
     abbrev put : List (Key × Option (List ℕ))
-    put = kinds.sync_changes (named_thesauri m) (table_at m.tables x.table) i x
+    put = its_sync_changes m c i x
+
+    -- its own entry, and the place that it ends in
+    its_entry : HasEntry kinds (at c) i x
+    its_entry = (subst (StandsUnder (at c) m.tables i) there (stands.indexes i)).entry
+
+    resumes : kinds.resumes x.body (place_of kinds (at c) i x)
+    resumes = subst (kinds.resumes x.body) (sym (place_is kinds (at c) i x its_entry)) its_entry.resumes
+
+    its_own : AreOwnChanges kinds i x put
+    its_own = kinds_laws.syncs.own (named_thesauri m) (table_at m.tables x.table) i x (place_of kinds (at c) i x)
 
     put_of : AllOf is_of_indexes put
-    put_of = its_of x.body put (kinds_laws.syncs.own (named_thesauri m) (table_at m.tables x.table) i x).of
+    put_of = its_of x.body put its_own.of
 
     its_table : IsTable (table_at m.tables x.table)
     its_table = let target = (stands.state.indexes.each i x there).target in table_is m.tables x.table target.table stands.state.tables target.there
@@ -86,31 +99,30 @@ module _ (c : Content) (m : StoreState) (i : List ℕ) (stands : StandsForState 
         indexes_changed c m put (indexes_after_sync kinds (named_thesauri m) m.tables i m.indexes) stands put_of are short
         (sync_stands kinds kinds_laws (at c) m.tables m.indexes (named_thesauri m) i x there (room_left x room) stands.state.tables stands.state.indexes stands.indexes)
         (sync_keeps kinds kinds_laws m.tables m.indexes (named_thesauri m) i x there (room_left x room) stands.state.tables stands.state.indexes)
-        (λ t. subst (λ (n : ℕ). n ≤ index_limit) (sym (few_synced (named_thesauri m) m.tables m.indexes i x there t)) (stands.state.few t))
+        (λ t. subst (λ (n : ℕ). n ≤ index_limit) (sym (few_altered (index_after_sync kinds (named_thesauri m) m.tables) (λ y. refl) m.indexes i x there t)) (stands.state.few t))
 
   -- those of a CONTEXT index are ones of its kind
   context_put : (x : IndexOf ContextIndex) (there : get m.indexes i ≡ Some (as_index x)) (room : has_too_many (as_index x) ≡ false) → AreIndexChanges (put (as_index x) there room)
   context_put x there room =
       let index = stands.state.indexes.each i (as_index x) there in
-      index_changes_sync (table_at m.tables x.table) i x (its_table (as_index x) there room) (stands.state.indexes.names i (as_index x) there) (stands.state.tables.names x.table index.target.table index.target.there)
-      index.prefs (context_is m.tables x index) (leb-true (x.body.part.given + length (waiting_rows x.body.marks)) mark_limit (room_left (as_index x) room))
+      index_changes_sync (table_at m.tables x.table) i x (place_of kinds (at c) i (as_index x)) (its_table (as_index x) there room) (stands.state.indexes.names i (as_index x) there) (stands.state.tables.names x.table index.target.table index.target.there)
+      index.prefs (resumes (as_index x) there room) (context_is m.tables x index) (leb-true (x.body.part.given + length (waiting_rows x.body.marks)) mark_limit (room_left (as_index x) room))
 
   -- by what the index is
   synced_by : (x : Index) (b : Body) → get m.indexes i ≡ Some (with_body x b) → has_too_many (with_body x b) ≡ false
-      → StandsForState (after (spell (kinds.sync_changes (named_thesauri m) (table_at m.tables x.table) i (with_body x b))) c) (with_synced m i)
+      → StandsForState (after (spell (its_sync_changes m c i (with_body x b))) c) (with_synced m i)
   synced_by x (inl b) there room =
       let are = context_put (with_body x b) there room in
       stands_synced (with_body x (inl b)) there room (are_changes (put (with_body x (inl b)) there room) are) (rows_put (put (with_body x (inl b)) there room) (at c) are stands.short_rows)
   synced_by x (inr (inl b)) there room = let wrong : true ≡ false = room in cc
   synced_by x (inr (inr b)) there room =
       let y : Index = with_body x (inr (inr b)) in
-      let own = kinds_laws.syncs.own (named_thesauri m) (table_at m.tables x.table) i y in
       stands_synced y there room
       (sync_are (named_thesauri m) (table_at m.tables x.table) i (with_body x b) (stands.state.indexes.names i y there) (its_table y there room) (kind_is m.tables y (stands.state.indexes.each i y there)))
-      (rows_frame (is_its kinds y.body) (put y there room) (at c) own.of (no_rows (inr b)) stands.short_rows)
+      (rows_frame (is_its kinds y.body) (put y there room) (at c) (its_own y there room).of (no_rows (inr b)) stands.short_rows)
 
 pub synced_stands : (c : Content) (m : StoreState) (i : List ℕ) (x : Index) → StandsForState c m → get m.indexes i ≡ Some x → has_too_many x ≡ false
-    → StandsForState (after (spell (kinds.sync_changes (named_thesauri m) (table_at m.tables x.table) i x)) c) (with_synced m i)
+    → StandsForState (after (spell (its_sync_changes m c i x)) c) (with_synced m i)
 synced_stands c m i x stands there room = synced_by c m i stands x x.body there room
 
 -- ---- the state after a new index

@@ -3,7 +3,7 @@ use Rattle.std.proofs.lemmas.Bool.{false≢true}
 use Rattle.std.proofs.lemmas.Result.{IfOk-weaker}
 use Rattle.ct_keep.specs.KeeperViews.{fault_of}
 use Rattle.st_parse.specs.declared.procedures.Procedure.{Procedure}
-use Rattle.st_parse.specs.declared.procedures.Procedure.TheVariants.{PolicyTokens, SyncIndex, ResultSet, Define, Thesaurus}
+use Rattle.st_parse.specs.declared.procedures.Procedure.TheVariants.{PolicyTokens, SyncIndex, OptimizeIndex, ResultSet, Define, Thesaurus}
 use Rattle.st_parse.specs.declared.statements.Arg.{Arg}
 use Rattle.db_state.specs.Effects.{reply_by}
 use Rattle.db_looks.specs.laws.Composing.{over_as, over_unsaid}
@@ -40,6 +40,16 @@ returns-in-SyncIndex-clause-serves g c =
 
 pub returns-in-SyncIndex-clause-fixed : goal.returns-in-SyncIndex-clause-fixed
 returns-in-SyncIndex-clause-fixed g c = λ m fixed. absurd (false≢true (sym (ap (λ (p : Procedure). is_fixed_call p c.args.args.now) c.in-SyncIndex.is) ∙ fixed))
+
+-- ---- an optimisation
+
+pub returns-in-OptimizeIndex-clause-serves : goal.returns-in-OptimizeIndex-clause-serves
+returns-in-OptimizeIndex-clause-serves g c =
+    serves_as _ _ _ _ _ _ c.optimize_index.result (λ m. ap (λ (p : Procedure). call m p c.args.args.now) c.in-OptimizeIndex.is ∙ ap (call m OptimizeIndex) (sym c.as_slice-in-OptimizeIndex.ensures)) (ap call_line c.in-OptimizeIndex.is)
+    c.optimize_index.ensures
+
+pub returns-in-OptimizeIndex-clause-fixed : goal.returns-in-OptimizeIndex-clause-fixed
+returns-in-OptimizeIndex-clause-fixed g c = λ m fixed. absurd (false≢true (sym (ap (λ (p : Procedure). is_fixed_call p c.args.args.now) c.in-OptimizeIndex.is) ∙ fixed))
 
 -- ---- a result set
 
@@ -87,6 +97,9 @@ returns-in-PolicyTokens-clause-looks g c = over_unsaid StandsForState _ _ _ _ (�
 
 pub returns-in-SyncIndex-clause-looks : goal.returns-in-SyncIndex-clause-looks
 returns-in-SyncIndex-clause-looks g c = over_unsaid StandsForState _ _ _ _ (λ k m. ap (λ (p : Procedure). call_allowance k m p c.args.args.now) c.in-SyncIndex.is)
+
+pub returns-in-OptimizeIndex-clause-looks : goal.returns-in-OptimizeIndex-clause-looks
+returns-in-OptimizeIndex-clause-looks g c = over_unsaid StandsForState _ _ _ _ (λ k m. ap (λ (p : Procedure). call_allowance k m p c.args.args.now) c.in-OptimizeIndex.is)
 
 pub returns-in-Define-clause-looks : goal.returns-in-Define-clause-looks
 returns-in-Define-clause-looks g c = over_unsaid StandsForState _ _ _ _ (λ k m. ap (λ (p : Procedure). call_allowance k m p c.args.args.now) c.in-Define.is)

@@ -1,5 +1,4 @@
-use Rattle.std.proofs.Common.{◌≡◌, ℕ, ap, sym, subst, List, None, Option, Result, Vec, refl, ◌∙◌}
-use Rattle.std.specs.Prelude.{is_some}
+use Rattle.std.proofs.Common.{◌≡◌, ℕ, ap, sym, subst, List, None, Result, Vec, refl, ◌∙◌}
 use Rattle.std.proofs.lemmas.Result.{err_from_is_err_and}
 use Rattle.std.specs.declared.alloc.Global.{Global}
 use Rattle.ct_keep.specs.KeeperViews.{fault_of}
@@ -12,6 +11,7 @@ use Rattle.db_state.specs.Effects.{Effect, reply_by}
 use Rattle.db_state.specs.Plans.{GivesReply}
 use Rattle.db_change.specs.Creating.{create_table}
 use Rattle.db_index.specs.declared.kinds.BuiltKind.{BuiltKind}
+use Rattle.db_index.specs.Indexing.{create_index}
 use Rattle.db_change.specs.Inserting.{insert_into}
 use Rattle.db_change.specs.Updating.{update}
 use Rattle.db_change.specs.Deleting.{delete_from}
@@ -19,15 +19,15 @@ use Rattle.db_change.specs.Dropping.{drop_table}
 use Rattle.db_index.specs.Dropping.{drop_index}
 use Rattle.st_parse.specs.declared.statements.Assign.{Assign}
 use Rattle.db_looks.specs.laws.Composing.{over_as, over_unsaid}
-use Rattle.db_state.specs.States.{StandsForState}
+use Rattle.db_state.specs.States.{StandsForState, StoreState}
 use Rattle.db_select.specs.Looking.{select_allowance}
 use Rattle.db_select.specs.Statements.{select_statement}
 use Rattle.db_select.specs.Choosing.{selection}
 use Rattle.db_select.specs.laws.Allowing.{select_within}
 use Rattle.db_select.specs.laws.Selects.{statement_keeps}
 use Rattle.db_engine.specs.Looking.{allowance, call_allowance}
-use Rattle.db_engine.specs.Steps.{call, create_index_if, effect}
-use Rattle.db_engine.specs.Executing.{done_line, index_line, is_fixed}
+use Rattle.db_engine.specs.Steps.{call, effect}
+use Rattle.db_engine.specs.Executing.{done_line, is_fixed}
 use Rattle.db_state.specs.laws.Serving.{serves_short, serves_look, serves_as}
 use Rattle.db_engine.proofs.executing.reply_to.Goals as goal
 
@@ -38,10 +38,9 @@ returns-in-CreateTable-clause-serves g c =
 
 pub returns-in-CreateIndex-clause-serves : goal.returns-in-CreateIndex-clause-serves
 returns-in-CreateIndex-clause-serves g c =
-    serves_as _ _ _ _ _ _ c.index_statement.result
-    (λ m. ap (effect m) c.in-CreateIndex.is
-    ∙ ap (λ (o : Option BuiltKind). create_index_if o m c.in-CreateIndex.name c.in-CreateIndex.table c.in-CreateIndex.column c.in-CreateIndex.parameters) (sym c.built_index-built.ensures))
-    (ap done_line c.in-CreateIndex.is ∙ ap (λ (o : Option BuiltKind). index_line (is_some o)) (sym c.built_index-built.ensures)) c.index_statement.ensures.serves
+    let by_kind : StoreState → BuiltKind → Effect = λ m kind. create_index m c.in-CreateIndex.name c.in-CreateIndex.table c.in-CreateIndex.column kind c.in-CreateIndex.parameters c.in-CreateIndex.parallel in
+    serves_as (λ m. by_kind m c.built_kind-built.result) _ _ _ _ _ c.create_index.result
+    (λ m. ap (effect m) c.in-CreateIndex.is ∙ ap (by_kind m) (sym c.built_kind-built.ensures)) (ap done_line c.in-CreateIndex.is) c.create_index.ensures
 
 pub returns-in-Insert-clause-serves : goal.returns-in-Insert-clause-serves
 returns-in-Insert-clause-serves g c =

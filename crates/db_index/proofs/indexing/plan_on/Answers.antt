@@ -12,8 +12,8 @@ use Rattle.db_index.proofs.indexing.plan_on.Goals as goal
 pub returns-in-Some-clause-plan : goal.returns-in-Some-clause-plan
 returns-in-Some-clause-plan g c = λ m k x holds stands there small columns sections.
     let i = c.args.index.now in let t = c.args.table.now in let place = c.args.place in let wanted = c.args.wanted in
-    faulty m i t c.args.kind x place wanted c.in_ok-there.there c.is_text_at.result c.is_fitting.result c.in_ok-many.many c.index_fault.result stands.state.tables there (c.in_ok-there.ensures.taken m k holds stands small)
-    (c.is_text_at.ensures ∙ ap (λ cs. is_text_at cs place) columns) (c.is_fitting.ensures ∙ ap (λ cs. is_some (fitting cs wanted)) columns)
+    faulty m i t c.args.kind c.args.parallel.now x place wanted c.in_ok-there.there c.is_text_at.result c.is_fitting.result c.is_degree.result c.in_ok-many.many c.index_fault.result stands.state.tables there (c.in_ok-there.ensures.taken m k holds stands small)
+    (c.is_text_at.ensures ∙ ap (λ cs. is_text_at cs place) columns) (c.is_fitting.ensures ∙ ap (λ cs. is_some (fitting cs wanted)) columns) c.is_degree.ensures
     (c.in_ok-many.ensures.many m k (reads_hold _ _ k c.in_ok-there.ensures.reads holds) stands)
     c.index_fault.ensures.checks c.in-Some.fault c.in-Some.is
 
@@ -21,8 +21,8 @@ pub returns-clause-plan : goal.returns-clause-plan
 returns-clause-plan g c = λ m k x holds stands there small columns sections.
     let i = c.args.index.now in let t = c.args.table.now in let place = c.args.place in let wanted = c.args.wanted in
     let passed =
-    faultless m i t c.args.kind x place wanted c.in_ok-there.there c.is_text_at.result c.is_fitting.result c.in_ok-many.many c.index_fault.result stands.state.tables there (c.in_ok-there.ensures.taken m k holds stands small)
-    (c.is_text_at.ensures ∙ ap (λ cs. is_text_at cs place) columns) (c.is_fitting.ensures ∙ ap (λ cs. is_some (fitting cs wanted)) columns)
+    faultless m i t c.args.kind c.args.parallel.now x place wanted c.in_ok-there.there c.is_text_at.result c.is_fitting.result c.is_degree.result c.in_ok-many.many c.index_fault.result stands.state.tables there (c.in_ok-there.ensures.taken m k holds stands small)
+    (c.is_text_at.ensures ∙ ap (λ cs. is_text_at cs place) columns) (c.is_fitting.ensures ∙ ap (λ cs. is_some (fitting cs wanted)) columns) c.is_degree.ensures
     (c.in_ok-many.ensures.many m k (reads_hold _ _ k c.in_ok-there.ensures.reads holds) stands)
     c.index_fault.ensures.checks c.in-Some-wanted.wanted c.in_default.is c.in-Some-wanted.is (c.index_fault.ensures.formed c.in_default.is)
     (subst (λ (o : Option Wanted). IfSome o (SectionsFit c.args.kind)) c.in-Some-wanted.is sections) in

@@ -8,7 +8,7 @@ pub returns-in-Ok-clause-changes : goal.returns-in-Ok-clause-changes
 returns-in-Ok-clause-changes g c = λ m k x holds stands there of.
     let y = context_of m c.args.index.now x there of in
     let told = holds_index k m stands c.args.index.now y.0 y.2 in
-    sync_makes c.args.index.now m x y.0 y.1 c.new-batch.result c.sync.new.batch c.new-batch.ensures (c.in-Ok.ensures.room k m.tables y.0 holds told) (c.in-Ok.ensures.changes k m.tables y.0 holds told)
+    sync_makes c.args.index.now m k x y.0 y.1 told c.new-batch.result c.sync.new.batch c.new-batch.ensures (c.in-Ok.ensures.room k m.tables y.0 holds told) (c.in-Ok.ensures.changes k m.tables y.0 holds told)
 
 pub returns-in-Err-TooMany-clause-changes : goal.returns-in-Err-TooMany-clause-changes
 returns-in-Err-TooMany-clause-changes g c = λ m k x holds stands there of.

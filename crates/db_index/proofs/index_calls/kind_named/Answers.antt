@@ -5,9 +5,9 @@ use Rattle.ct_entry.specs.Keys.{at}
 use Rattle.db_names.specs.declared.heads.IndexHead.{IndexHead}
 use Rattle.db_names.specs.laws.Heads.{head_read}
 use Rattle.db_state.specs.laws.Heads.{store_heads, heads_stand, get-heads}
-use Rattle.db_index.specs.Syncing.{kind_named}
-use Rattle.db_index.proofs.SyncChecks.{kind_of_head}
-use Rattle.db_index.proofs.syncing.kind_named.Goals as goal
+use Rattle.db_index.specs.IndexCalls.{kind_named}
+use Rattle.db_index.proofs.IndexCallSteps.{kind_of_head}
+use Rattle.db_index.proofs.index_calls.kind_named.Goals as goal
 
 pub returns-clause-kind : goal.returns-clause-kind
 returns-clause-kind g c = λ m k holds stands.
