@@ -6,10 +6,10 @@ ghost use Rattle.gen_script.specs.Hits.{hit_count};
 ghost use Rattle.gen_script.specs.Occurring.{occurs};
 ghost use Rattle.db_console.specs.Generating.{HasHits, IsGenerated};
 
-use crate::running::{DEGREE, SCRIPT_LIMIT, serve};
+use crate::running::{SCRIPT_LIMIT, serve};
 use ct_base::Memory;
 use ct_keep::MemKeeper;
-use db_arguments::STORE_LIMIT;
+use db_arguments::{DEFAULT_DEGREE, STORE_LIMIT};
 use db_cond::{out_of_memory, store_full};
 use gen_script::{hit_count, occurs, script, summary};
 use std::alloc::Global;
@@ -40,7 +40,7 @@ fn hits_of<R: Threads + Sync>(
     ensures { IfOk result (HasHits script.items) }
 {
     let mut keeper = MemKeeper::new(alloc, script, STORE_LIMIT, room)?;
-    let status = serve(rt, alloc, DEGREE, SCRIPT_LIMIT, &mut keeper);
+    let status = serve(rt, alloc, DEFAULT_DEGREE, SCRIPT_LIMIT, &mut keeper);
     if status != 0 {
         return Err(Memory);
     }

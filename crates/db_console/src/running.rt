@@ -30,9 +30,6 @@ pub const STATEMENT_LIMIT: usize = 65_536;
 /// How many bytes a script has at most.
 pub const SCRIPT_LIMIT: u64 = 1 << 40;
 
-/// How many threads are at work on a statement at most.
-pub(crate) const DEGREE: u32 = 1;
-
 /// The status where the arguments of the command are of none of its forms.
 const NOT_OF_THE_FORM: u8 = 2;
 
@@ -76,10 +73,11 @@ fn status_of_load(fault: LoadFault) -> u8
     }
 }
 
-/// Serves the script of a site over the heap of its disk.
+/// Serves the script of a site over the heap of its disk. At most `degree` threads are at work on a statement.
 fn serve_heap<R: Threads + Sync, S: Site>(
     rt: &R,
     alloc: Global,
+    degree: u32,
     limit: u64,
     heap: Heap,
     site: &mut S,
@@ -92,13 +90,19 @@ fn serve_heap<R: Threads + Sync, S: Site>(
     ensures complete { CompletesRun result (S.disk site.old) (S.disk site.new) }
 {
     let mut keeper = PagedKeeper::over(site, heap, StoreShape, limit);
-    let status = serve(rt, alloc, DEGREE, SCRIPT_LIMIT, &mut keeper);
+    let status = serve(rt, alloc, degree, SCRIPT_LIMIT, &mut keeper);
     let _site = keeper.finish();
     status
 }
 
 /// Serves the script of a site over the store that its disk has; where it has none yet, over a new one.
-fn serve_store<R: Threads + Sync, S: Site>(rt: &R, alloc: Global, limit: u64, site: &mut S) -> u8
+fn serve_store<R: Threads + Sync, S: Site>(
+    rt: &R,
+    alloc: Global,
+    degree: u32,
+    limit: u64,
+    site: &mut S,
+) -> u8
     ensures table { OverStores (S.disk site.old) (λ image m. RanOver limit image m (S.disk site.old) (S.disk site.new) result) }
     ensures foreign { OverForeign (S.disk site.old) (λ image. FailsToLoad image (S.disk site.old) (S.disk site.new) result) }
     ensures stores { TellsBy (S.disk site.old) result }
@@ -112,7 +116,7 @@ fn serve_store<R: Threads + Sync, S: Site>(rt: &R, alloc: Global, limit: u64, si
         Ok(heap) => heap,
         Err(fault) => return status_of_load(fault),
     };
-    serve_heap(rt, alloc, limit, heap, site)
+    serve_heap(rt, alloc, degree, limit, heap, site)
 }
 
 /// Says the script for so many rows, which is run over an empty store in memory, and the line that sums up that run. All memory is taken
@@ -133,9 +137,9 @@ fn say_generated<R: Threads + Sync, S: Site>(rt: &R, alloc: Global, rows: u32, s
 }
 
 /// Runs the script that the site gives over the store that its disk has, or a script that is generated, and gives the status of the program
-/// (docs/ERRORS.md). The arguments of the command tell which of these, and how much the content of the store may weigh; the site has the
-/// disk of the FILE that they name. Over a store its first call is a sync of that disk; of a generated script it says the bytes alone.
-/// Its cost is that of reading the store and of the statements.
+/// (docs/ERRORS.md). The arguments of the command tell which of these, how much the content of the store may weigh, and how many threads
+/// may be at work on a statement; the site has the disk of the FILE that they name. Over a store its first call is a sync of that disk; of
+/// a generated script it says the bytes alone. Its cost is that of reading the store and of the statements.
 pub fn run<R: Threads + Sync, S: Site>(
     rt: &R,
     alloc: Global,
@@ -172,7 +176,7 @@ pub fn run<R: Threads + Sync, S: Site>(
         return NOT_OF_THE_FORM;
     };
     match asked {
-        Asked::Over(store) => serve_store(rt, alloc, store.limit, site),
+        Asked::Over(store) => serve_store(rt, alloc, store.degree, store.limit, site),
         Asked::Rows(rows) => say_generated(rt, alloc, rows, site),
     }
 }

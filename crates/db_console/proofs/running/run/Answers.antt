@@ -45,20 +45,25 @@ returns-in_default-read-clause-script g c = λ rows asks.
 
 -- ---- they ask for a store
 
+pub returns-in-Over-clause-refused : goal.returns-in-Over-clause-refused
+returns-in-Over-clause-refused g c = λ none.
+    let asked : AsksFor (map string_bytes c.args.arguments.now) c.in-Over.store.file.now c.in-Over.store.limit = (c.in-Over.store.degree, rw (c.in-Some.is, c.in-Over.is) at c.in-Ok.ensures.some) in
+    absurd (none.0 c.in-Over.store.file.now c.in-Over.store.limit asked)
+
 pub returns-in-Over-clause-table : goal.returns-in-Over-clause-table
 returns-in-Over-clause-table g c = λ image m settled is well file limit asks.
-    let asked : AsksFor (map string_bytes c.args.arguments.now) c.in-Over.store.file.now c.in-Over.store.limit = rw (c.in-Some.is, c.in-Over.is) at c.in-Ok.ensures.some in
+    let asked : AsksFor (map string_bytes c.args.arguments.now) c.in-Over.store.file.now c.in-Over.store.limit = (c.in-Over.store.degree, rw (c.in-Some.is, c.in-Over.is) at c.in-Ok.ensures.some) in
     subst (λ (n : ℕ). RanOver n image m (g.S.Disk.disk c.args.site.now) (g.S.Disk.disk c.serve_store.new.site) c.serve_store.result) (one_reading.one_store _ _ _ _ _ asked asks).1
     (c.serve_store.ensures.table image m settled is well)
 
 pub returns-in-Over-clause-script : goal.returns-in-Over-clause-script
 returns-in-Over-clause-script g c = λ rows asks.
-    let asked : AsksFor (map string_bytes c.args.arguments.now) c.in-Over.store.file.now c.in-Over.store.limit = rw (c.in-Some.is, c.in-Over.is) at c.in-Ok.ensures.some in
+    let asked : AsksFor (map string_bytes c.args.arguments.now) c.in-Over.store.file.now c.in-Over.store.limit = (c.in-Over.store.degree, rw (c.in-Some.is, c.in-Over.is) at c.in-Ok.ensures.some) in
     absurd (one_reading.not_both _ _ _ rows asked asks)
 
 pub returns-in-Over-clause-unsaid : goal.returns-in-Over-clause-unsaid
 returns-in-Over-clause-unsaid g c = λ rows asks.
-    let asked : AsksFor (map string_bytes c.args.arguments.now) c.in-Over.store.file.now c.in-Over.store.limit = rw (c.in-Some.is, c.in-Over.is) at c.in-Ok.ensures.some in
+    let asked : AsksFor (map string_bytes c.args.arguments.now) c.in-Over.store.file.now c.in-Over.store.limit = (c.in-Over.store.degree, rw (c.in-Some.is, c.in-Over.is) at c.in-Ok.ensures.some) in
     absurd (one_reading.not_both _ _ _ rows asked asks)
 
 -- ---- they ask for a script
