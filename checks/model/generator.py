@@ -445,7 +445,12 @@ class Maker:
         owner = ["CTXSYS", "."] if self.chance(0.7) else []
         has_parameters = self.chance(0.9 if kind == "CTXCAT" else 0.75)
         parameters = ["PARAMETERS", "(", quoted(self.parameters(kind, table)), ")"] if has_parameters else []
-        return ["CREATE", "INDEX", index, "ON", name, "(", column.name, ")", "INDEXTYPE", "IS", *owner, kind, *parameters]
+        parallel = ["PARALLEL", self.threads()] if self.chance(0.2 if "PARALLEL" in self.built else 0.02) else []
+        return ["CREATE", "INDEX", index, "ON", name, "(", column.name, ")", "INDEXTYPE", "IS", *owner, kind, *parameters, *parallel]
+
+    def threads(self) -> str:
+        """Returns how many threads may work on an index."""
+        return self.one_of(["0", "17", str(2**32 + 2), self.one_of(BEYOND)] if self.goes_wrong() else ["1", "2", "3", "4", "016", "16"])
 
     def free_columns(self, table: str, kind: Kind) -> list[Column]:
         """Returns the columns of a table that can have an index of this kind and have none yet."""
@@ -908,6 +913,15 @@ class Maker:
         memory = self.one_of(wrong_memories if self.goes_wrong() else ["'16M'", "'0k'", "'007G'"])
         return self.call("CTX_DDL", "SYNC_INDEX", [first, *([memory] if self.chance(0.3) else [])])
 
+    def optimize(self) -> list[str]:
+        indexes = [name for name, index in self.state.indexes.items() if index.kind == "CONTEXT" or self.chance(0.1)]
+        first = self.named(self.known(indexes, INDEXES))
+        level = self.one_of(["'TOKEN'", "'REBUILD'", "'FULL '", "''", "1"] if self.goes_wrong() else ["'FAST'", "'FULL'", "'FULL'", "'full'", "'Fast'"])
+        wrong_limits = ["0", "-1", "1000001", "9223372036854775808", "'7'", "TRUE"]
+        limit = self.one_of(wrong_limits if self.goes_wrong() else ["1", "2", "3", "7", "50", "1000000"])
+        has_limit = self.chance(0.5 if level.lower() == "'full'" else 0.1)
+        return self.call("CTX_DDL", "OPTIMIZE_INDEX", [first, level, *([limit] if has_limit else [])])
+
     def policy_tokens(self) -> list[str]:
         text = quoted(self.text_for(4000) if self.chance(0.1) else self.text())
         if not self.chance(0.6 if self.state.preferences else 0.05):
@@ -1004,6 +1018,8 @@ class Maker:
             kinds += [(self.create_thesaurus, 1 if self.state.thesauri else 4), (self.create_relation, 12 if self.state.thesauri else 1)]
         if searched and ("WILDCARDS" in self.built or self.state.thesauri):
             kinds.append((self.select_by_one, 14))
+        if "OPTIMIZE_INDEX" in self.built:
+            kinds.append((self.optimize, 8 if searched else 1))
         if "CATSEARCH" in self.built:
             kinds.append((self.select_in_catalogue, 25 if catalogues else 1))
         if "MATCHES" in self.built:

@@ -22,6 +22,7 @@ from procedures import (
     CreateSectionGroup,
     CreateStoplist,
     CreateThesaurus,
+    OptimizeIndex,
     PolicyTokens,
     ResultSet,
     SetAttribute,
@@ -65,6 +66,7 @@ PROCEDURES: dict[tuple[str, str], tuple[str | None, type[Call]]] = {
     ("ctx_ddl", "create_index_set"): ("INDEX-SETS", CreateIndexSet),
     ("ctx_ddl", "add_index"): ("INDEX-SETS", AddIndex),
     ("ctx_ddl", "sync_index"): (None, SyncIndex),
+    ("ctx_ddl", "optimize_index"): ("OPTIMIZE_INDEX", OptimizeIndex),
     ("ctx_thes", "create_thesaurus"): ("THESAURI", CreateThesaurus),
     ("ctx_thes", "create_relation"): ("THESAURI", CreateRelation),
     ("ctx_doc", "policy_tokens"): (None, PolicyTokens),
@@ -167,10 +169,19 @@ class Parser:
         if self.takes("CTXSYS"):
             self.expect(".")
         kind = self.index_kind()
+        return CreateIndex(index, table, column, kind, self.parameters(), self.parallel())
+
+    def parameters(self) -> str:
         if not self.takes("PARAMETERS"):
-            return CreateIndex(index, table, column, kind)
+            return ""
         self.need("PARAMETERS")
-        return CreateIndex(index, table, column, kind, self.bracketed(lambda: self.value_of("text")))
+        return self.bracketed(lambda: self.value_of("text"))
+
+    def parallel(self) -> Whole | None:
+        if not self.takes("PARALLEL"):
+            return None
+        self.need("PARALLEL")
+        return self.number()
 
     def index_kind(self) -> Kind:
         if self.takes("CTXCAT"):

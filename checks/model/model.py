@@ -44,6 +44,7 @@ BUILT = frozenset({
     "SECTION-GROUPS",  # CREATE_SECTION_GROUP, ADD_ZONE_SECTION, ADD_FIELD_SECTION, ADD_SPECIAL_SECTION
     "INDEX-SETS",  # CREATE_INDEX_SET, ADD_INDEX
     "PARAMETERS",  # PARAMETERS of a CREATE INDEX
+    "PARALLEL",  # PARALLEL of a CREATE INDEX
     "CATALOGUES",  # CREATE INDEX of the kind CTXCAT
     "CATSEARCH",
     "RULES",  # CREATE INDEX of the kind CTXRULE
@@ -56,6 +57,7 @@ BUILT = frozenset({
     "THESAURI",  # CREATE_THESAURUS, CREATE_RELATION, and the operators of queries
     "WILDCARDS",
     "DEFINESCORE",
+    "OPTIMIZE_INDEX",
 })
 
 STATEMENT_LIMIT = 65_536
@@ -65,14 +67,17 @@ STATEMENT_LIMIT = 65_536
 class Answer:
     """What is to be answered to a statement, where the store has room for it.
 
-    What a store weighs is known but for the postings of CONTEXT indexes. A statement changes them only where it makes rows synchronised, and
-    then they and the other entries both weigh more; so it is known whether a store weighs more after a statement.
+    What a store weighs is known but for the postings of CONTEXT indexes. A statement makes them heavier only where it makes rows synchronised,
+    and then the other entries weigh more too; so it is known whether a store weighs more after a statement. Only after an optimisation it
+    isn't: rows of postings that are split anew weigh more in some cases, since each entry weighs 64 bytes at least, and with a limit the
+    index's entry may keep a longer place.
     """
 
     reply: str
     before: State
     after: State
     takes_room: bool = False
+    may_lengthen: bool = False
 
     @property
     def grows(self) -> bool:
@@ -80,7 +85,7 @@ class Answer:
 
     def may_be_full(self, limit: int) -> bool:
         """Returns whether it may be answered that the store is full."""
-        return self.grows and room(self.after) > limit
+        return (self.grows or self.may_lengthen) and room(self.after) > limit
 
     def must_be_full(self, limit: int) -> bool:
         """Returns whether nothing else may be answered."""
@@ -104,7 +109,7 @@ def answer(state: State, statement: bytes, built: frozenset[str] = BUILT, is_res
         return Answer(refusal.reply, state, state)
     after = state.copy()
     reply = parsed.effect(after)
-    return Answer(reply, state, after, parsed.takes_room)
+    return Answer(reply, state, after, parsed.takes_room, parsed.may_lengthen)
 
 
 def parts(script: bytes) -> list[tuple[bytes, bool]]:

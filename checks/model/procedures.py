@@ -47,6 +47,7 @@ TAG_LIMIT = 256
 SPECIALS = ("sentence", "paragraph")
 SUB_INDEX_LIMIT = 16
 SUB_COLUMN_LIMIT = 3
+TERM_LIMIT = 1_000_000  # how many terms a call of OPTIMIZE_INDEX may be asked to handle
 
 DONE = "PL/SQL procedure successfully completed.\n"
 
@@ -369,6 +370,50 @@ class SyncIndex(Call):
 
     def effect(self, state: State) -> str:
         state.synchronise(state.indexes[self.name(0) or ""])
+        return DONE
+
+
+class OptimizeIndex(Call):
+    """Puts what a CONTEXT index has stored of texts in order. No reply tells of it; FULL without a limit drops all texts that the index has lost.
+
+    The store may weigh more after it, at each level: postings that are split anew may weigh more, and with a limit the index keeps the place
+    where the call stopped.
+    """
+
+    may_lengthen = True
+
+    @property
+    def level(self) -> str:
+        return ascii_upper(self.text(1) or "")
+
+    @property
+    def limit(self) -> int | Beyond | None:
+        """Returns the third argument, where it is a number."""
+        argument = self.arguments[2] if len(self.arguments) > 2 else None
+        return None if isinstance(argument, bool | str) else argument
+
+    def are_of_their_kind(self) -> bool:
+        """Returns whether the arguments are two texts, and for any level but FAST perhaps a number."""
+        texts = [argument for argument in self.arguments[:2] if isinstance(argument, str)]
+        has_limit = self.limit is not None and self.level != "FAST"
+        return len(texts) == 2 and len(self.arguments) == (3 if has_limit else 2)
+
+    def refusals(self, state: State) -> Refusals:
+        yield from self.unknown_name(0, state.indexes)
+        index = state.indexes.get(self.name(0) or "")
+        if index is not None and index.kind != "CONTEXT":
+            yield NO_INDEX
+        if not self.are_of_their_kind():
+            yield WRONG_VALUES
+            return
+        if self.name(0) is None or self.level not in ("FAST", "FULL"):
+            yield BAD_VALUE
+        if isinstance(self.limit, Beyond) or (self.limit is not None and not 1 <= self.limit <= TERM_LIMIT):
+            yield OUT_OF_RANGE
+
+    def effect(self, state: State) -> str:
+        if self.level == "FULL" and self.limit is None:
+            state.indexes[self.name(0) or ""].lost.clear()
         return DONE
 
 

@@ -317,6 +317,34 @@ E31: limit reached
 EXEC CTX_DDL.ADD_INDEX('iset','1');
 E30: bad attribute or value
 """,
+    # PARALLEL is looked at behind the form of PARAMETERS, and changes no reply
+    "indexes in parallel": TABLE
+    + """\
+INSERT INTO docs VALUES (1,'b a',0);
+1 row created.
+INSERT INTO docs VALUES (2,'a',0);
+1 row created.
+CREATE INDEX di ON docs(body) INDEXTYPE IS CONTEXT PARALLEL 0;
+E22: number out of range
+CREATE INDEX di ON docs(body) INDEXTYPE IS CONTEXT PARALLEL 17;
+E22: number out of range
+CREATE INDEX di ON docs(body) INDEXTYPE IS CONTEXT PARAMETERS ('LEXER') PARALLEL 17;
+E30: bad attribute or value
+CREATE INDEX di ON docs(price) INDEXTYPE IS CONTEXT PARALLEL 17;
+E13: wrong type or number of values
+CREATE INDEX di ON docs(body) INDEXTYPE IS CONTEXT PARALLEL 9223372036854775808;
+E22: number out of range
+CREATE INDEX di ON docs(body) INDEXTYPE IS CONTEXT PARALLEL -1;
+E10: statement not understood
+CREATE INDEX di ON docs(body) INDEXTYPE IS CONTEXT PARALLEL 2 PARAMETERS ('');
+E10: statement not understood
+CREATE INDEX di ON docs(body) INDEXTYPE IS CTXSYS.CONTEXT PARAMETERS ('') PARALLEL 16;
+Index created.
+CREATE INDEX di ON docs(body) INDEXTYPE IS CONTEXT PARALLEL 17;
+E12: di exists already
+"""
+    + search("a", "1|1", "2|1")
+    + search("b", "1|1"),
     # names that stand in the statement, then the columns of the set; a catalogue and a CONTEXT index may be on one column
     "catalogues and their index sets": TABLE
     + """\

@@ -24,6 +24,7 @@ from texts import SCORE_LIMIT, WHITE_SPACE, ascii_lower, ascii_upper
 TABLE_LIMIT = 64
 COLUMN_LIMIT = 16
 INDEX_LIMIT = 16
+THREAD_LIMIT = 16  # how many threads PARALLEL may give
 ROW_LIMIT = 100_000
 VIEWS = ("ctx_user_pending", "ctx_user_index_errors")
 
@@ -113,6 +114,9 @@ class Statement(ABC):
     # whether it is refused where the store has no room for what it does
     takes_room = False
 
+    # whether the store may weigh more after it, though the least that it may weigh is the same
+    may_lengthen = False
+
     @abstractmethod
     def refusals(self, state: State) -> Refusals:
         """Yields every refusal that holds; those of one number in the order in which their causes stand in the statement."""
@@ -198,6 +202,7 @@ class CreateIndex(Statement):
     column: str
     kind: Kind
     parameters: str = ""
+    parallel: Whole | None = None  # how many threads may work on it, of which no reply tells
     takes_room = True
 
     @property
@@ -243,6 +248,8 @@ class CreateIndex(Statement):
             yield BAD_VALUE
         if not all(column.fits_sub_index for column in map(table.column, self.sub_columns(state)) if column is not None):
             yield BAD_VALUE
+        if isinstance(self.parallel, Beyond) or (self.parallel is not None and not 1 <= self.parallel <= THREAD_LIMIT):
+            yield OUT_OF_RANGE
         if len(state.indexes_of(self.table)) >= INDEX_LIMIT:
             yield LIMIT_REACHED
 

@@ -24,12 +24,10 @@ EXEC CTX_DDL.SYNC_INDEX('ci','much');
 EXEC CTX_DDL.SYNC_INDEX('no name','much',2);
 EXEC CTX_DDL.SYNC_INDEX('ti',1,2);
 EXEC CTX_DDL.SYNC_INDEX('ti','much');
--- PARALLEL and OPTIMIZE_INDEX aren't built, of no kind of index; CATSEARCH is, which asks the catalogue alone
+-- CATSEARCH asks the catalogue alone, PARAMETERS takes a text, and OPTIMIZE_INDEX is for CONTEXT indexes
 SELECT id FROM items WHERE CATSEARCH(title,'red',NULL) > 0;
 SELECT id FROM items WHERE CATSEARCH(title,'red','price < 5 ORDER BY price') > 0;
 SELECT id FROM nope WHERE CATSEARCH(nope,'',NULL) > 0;
-CREATE INDEX ri ON items(title) INDEXTYPE IS CTXRULE PARALLEL 2;
-CREATE INDEX pi ON items(kind) INDEXTYPE IS CTXCAT PARALLEL 2;
 CREATE INDEX pi ON items(kind) INDEXTYPE IS CTXCAT PARAMETERS (INDEX SET iset);
 EXEC CTX_DDL.OPTIMIZE_INDEX('ci','FULL');
 -- index sets: the key, a short text and a number may be in a sub-index, twice too; sub-indexes may be the same

@@ -18,8 +18,8 @@ SELECT id FROM docs WHERE CONTAINS(body,'web\-site = shop') > 0;
 SELECT id FROM docs WHERE CONTAINS(body,'quick WITHIN SENTENCE') > 0;
 SELECT id FROM docs WHERE CONTAINS(body,'qui%') > 0;
 
--- A name that isn't there comes before all else that is wrong, but for what isn't understood or isn't built yet.
+-- A name that isn't there comes before all else that is wrong, but for what isn't understood.
 SELECT nope FROM nothing WHERE MATCHES(x, 'a') > 00 ORDER BY y;
 SELECT * FROM ctx_user_pending WHERE MATCHES(x, 'a') > 0;
 CREATE INDEX docs ON nothing(nope) INDEXTYPE IS CTXRULE PARAMETERS ('x y');
-CREATE INDEX docs ON nothing(nope) INDEXTYPE IS CTXRULE PARAMETERS ('x y') PARALLEL 2;
+CREATE INDEX docs ON nothing(nope) INDEXTYPE IS CTXRULE PARAMETERS ('x y') PARALLEL 17;
