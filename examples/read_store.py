@@ -1,10 +1,11 @@
 #!/usr/bin/env python3
 """Prints the entries of a store file, a line for each: the key and the value, as hexadecimal digits. It writes nothing.
 
-    read_store.py [--rules] FILE
+    read_store.py [--rules | --postings] FILE
 
 It reads the file as docs/STORE.md says ("Recovery"), also where a crash has left it in the midst of a commit. With --rules it prints the
-rows of all rule indexes instead, each with its rule as it is stored, in words ("Stored queries").
+rows of all rule indexes instead, each with its rule as it is stored, in words ("Stored queries"). With --postings it prints of each CONTEXT
+index how tidy it is, and behind which term an optimisation goes on, and then its rows of words and of sections with their documents.
 """
 import sys
 
@@ -200,6 +201,52 @@ def rules(found):
     return sorted((index[1:].decode(), key, rule) for index, key, rule in rows if index in indexes)
 
 
+def term_at(fields):
+    """Returns a term in words, and goes past it: a stream with a token, or a section. None where it is no term."""
+    stream = fields.byte()
+    text = fields.text()
+    need(stream in (0, 255) or (1 <= stream <= 64 and text), "a place is none")
+    return None if not text else f"section {text}" if stream == 255 else f"{stream} {text}"
+
+
+def context_end(value):
+    """Returns how tidy a CONTEXT index is, and behind which term an optimisation goes on, by its entry."""
+    fields = Fields(value)
+    fields.bytes(1)
+    fields.text()
+    fields.bytes(2)
+    fields.list(lambda: (fields.text(), fields.text()))
+    fields.list(fields.text)
+    fields.bytes(2)
+    fields.list(lambda: (fields.text(), fields.byte(), fields.list(fields.text)))
+    fields.list(lambda: fields.list(fields.text))
+    fields.bytes(4)
+    tidiness = fields.byte()
+    need(tidiness <= 2, "an index is tidy in no way")
+    place = term_at(fields)
+    need(fields.at == len(value), "the entry of an index has bytes behind it")
+    return ["not tidy", "packed", "clean"][tidiness], place or "the first term"
+
+
+def postings(found):
+    """Returns the ends of the entries of all CONTEXT indexes, and their rows of words and of sections, in order of their keys."""
+    shown = [(key[2:].decode(), *context_end(value)) for key, value in found.items() if key[0] == 0x20 and value[:1] == b"\1"]
+    for key in sorted(key for key in found if key[0] in (0x24, 0x25)):
+        index, behind = key[2 : 2 + key[1]].decode(), key[2 + key[1] : -4]
+        token = f"{behind[0]} {behind[2:].decode()}" if key[0] == 0x24 else f"section {behind[1:].decode()}"
+        fields, last, documents = Fields(found[key]), 0, []
+        for _ in range(fields.varint()):
+            last += fields.varint()
+            numbers = 1 if key[0] == 0x24 else 2
+            count = fields.varint()
+            for _ in range(numbers * count):
+                fields.varint()
+            documents.append(last)
+        need(fields.at == len(found[key]) and documents[:1] == [number(key[-4:], 0, 4)], "a row is spelt wrongly")
+        shown.append((index, token, " ".join(map(str, documents))))
+    return shown
+
+
 def main():
     *options, path = sys.argv[1:]
     try:
@@ -207,6 +254,10 @@ def main():
             found = entries(it.read())
         if options == ["--rules"]:
             for row in rules(found):
+                print(*row, sep="|")
+            return
+        if options == ["--postings"]:
+            for row in postings(found):
                 print(*row, sep="|")
             return
     except NoStore as why:
