@@ -191,10 +191,13 @@ fn is_among(keys: &[Key], key: &[u8]) -> bool
     keys.iter().any(|k| k.as_slice() == key)
 }
 
-/// Whether a key has one of the patterns.
+/// Whether a key has one of the patterns. Where there is none, it takes no memory.
 fn has_pattern(alloc: Global, patterns: &[Pattern], key: &[u8]) -> Result<bool, Memory>
     ensures { IfOk result (λ is. is ≡ has_pattern patterns.now key.now) }
 {
+    if patterns.is_empty() {
+        return Ok(false);
+    }
     let key = characters(alloc, key)?;
     let mut rest = patterns;
     while let [pattern, later @ ..] = rest {
