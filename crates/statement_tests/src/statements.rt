@@ -335,7 +335,10 @@ const CALLS: &[(&str, Option<&str>)] = &[
     ("EXEC ctx_ddl.sync_index('i', NULL)", None),
     ("EXEC ctx_ddl.sync_index", None),
     ("EXEC ctx_ddl.optimize_index('i', 'FULL')", Some("exec")),
-    ("EXECUTE Ctx_Ddl.Optimize_Index('i', 'FULL', 1000)", Some("exec")),
+    (
+        "EXECUTE Ctx_Ddl.Optimize_Index('i', 'FULL', 1000)",
+        Some("exec"),
+    ),
     ("EXEC ctx_ddl.optimize_index('i', FULL)", None),
     ("EXEC ctx_doc.optimize_index('i', 'FULL')", None),
     ("EXECUTE ctx_doc.policy_tokens('a', 'b')", Some("exec")),
