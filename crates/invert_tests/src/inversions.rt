@@ -1,6 +1,6 @@
 //! What inversions give, and that two parts are worked at once.
 
-ghost use Rattle.std.specs.Prelude.{◌≡◌, ◌∷◌, [], IfOk};
+ghost use Rattle.std.specs.Prelude.{◌≡◌, ◌+◌, ◌<◌, ◌^◌, ◌∷◌, [], IfOk, length};
 ghost use Rattle.ix_invert.specs.Inverting.{posting};
 
 use ct_base::{DocId, Memory, Pair, Pairs, Text};
@@ -130,11 +130,17 @@ impl Piece for Letters {
     }
 }
 
-/// The inversion of `b a` and `a`, with so many threads, as text: of each posting its letter, its document and its position.
-fn inverted<R: Threads + Sync>(rt: &R, alloc: Global, degree: u32) -> Result<Vec<u8>, Memory> {
-    let texts = [Text::of(alloc, "b a")?, Text::of(alloc, "a")?];
+/// The inversion of texts, with so many threads, as text: of each posting its letter, its document and its position.
+fn inverted<R: Threads + Sync>(
+    rt: &R,
+    alloc: Global,
+    texts: &[Text],
+    degree: u32,
+) -> Result<Vec<u8>, Memory>
+    requires { 1 + length texts.now < 2 ^ 32 }
+{
     let mut seen = Vec::new(alloc);
-    for posting in invert(rt, alloc, &Letters, 1, &texts, degree)? {
+    for posting in invert(rt, alloc, &Letters, 1, texts, degree)? {
         seen.extend_from_slice(posting.token.as_slice())?;
         seen.push((posting.doc.0 % 10) as u8 + b'0')?;
         for place in posting.places.as_slice() {
@@ -147,13 +153,83 @@ fn inverted<R: Threads + Sync>(rt: &R, alloc: Global, degree: u32) -> Result<Vec
 #[test]
 fn by_letter_and_then_by_document(rt: HostRuntime) -> Result<(), Fail> {
     let alloc = rt.alloc();
-    assert_eq!(rt;
-        inverted(&rt, alloc, 1)?.as_slice(),
-        b"a12a21b11".as_slice()
-    );
-    assert_eq!(rt;
-        inverted(&rt, alloc, 2)?.as_slice(),
-        b"a12a21b11".as_slice()
-    );
+    let texts = [
+        Text::of(alloc, "b a")?,
+        Text::of(alloc, "a")?,
+        Text::of(alloc, "a")?,
+    ];
+    for (count, degree, want) in [
+        (0, 0, ""),
+        (0, 1, ""),
+        (0, 16, ""),
+        (2, 1, "a12a21b11"),
+        (2, 2, "a12a21b11"),
+        (3, 2, "a12a21a31b11"),
+        (3, 16, "a12a21a31b11"),
+    ] {
+        let seen = inverted(&rt, alloc, &texts[..count], degree)?;
+        assert_eq!(rt;
+            seen.as_slice(),
+            want.as_bytes(),
+            "{count} texts, {degree} threads"
+        );
+    }
+    Ok(())
+}
+
+/// Asks for more memory than there is, to read one of its texts.
+#[derive(Drop)]
+struct Greedy {
+    document: u32,
+}
+
+/// More postings than any memory holds.
+const TOO_MANY: usize = 1 << 60;
+
+impl Piece for Greedy {
+    ghost use Rattle.std.specs.Prelude.{[]};
+
+    ghost postings = { λ m n t. [] };
+
+    fn entries(&self, alloc: Global, number: u32, _text: &str) -> Result<Vec<Posting>, Memory> {
+        let mut postings = Vec::new(alloc);
+        if number == self.document {
+            postings.reserve(TOO_MANY)?;
+        }
+        Ok(postings)
+    }
+}
+
+/// Whether three texts are refused for want of memory, where this document asks for too much, with so many threads.
+fn is_refused<R: Threads + Sync>(
+    rt: &R,
+    alloc: Global,
+    document: u32,
+    degree: u32,
+) -> Result<bool, Memory> {
+    let texts = [
+        Text::of(alloc, "a")?,
+        Text::of(alloc, "b")?,
+        Text::of(alloc, "c")?,
+    ];
+    let found = invert(rt, alloc, &Greedy { document }, 1, &texts, degree);
+    Ok(found.is_err())
+}
+
+/// Where memory is wanting in one part, it is for all.
+#[test]
+fn memory_wanting_in_a_part(rt: HostRuntime) -> Result<(), Fail> {
+    let alloc = rt.alloc();
+    for (document, degree, want) in [
+        (1, 1, true),
+        (1, 2, true),
+        (2, 3, true),
+        (3, 2, true),
+        (3, 16, true),
+        (4, 2, false),
+    ] {
+        let is = is_refused(&rt, alloc, document, degree)?;
+        assert_eq!(rt; is, want, "the document {document}, {degree} threads");
+    }
     Ok(())
 }

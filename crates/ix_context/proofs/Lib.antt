@@ -7,3 +7,4 @@ pub mod UntidySteps
 pub mod ShapeSteps
 pub mod SyncSteps
 pub mod PortionSteps
+pub mod RunSteps

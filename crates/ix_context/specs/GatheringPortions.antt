@@ -1,5 +1,5 @@
 -- What is gathered of several texts at once: their postings, which come in any order that leaves those of each term as they are.
-use Rattle.std.specs.Prelude.{ℕ, ℤ, pos, ◌≡◌, ◌≤◌, ◌<◌, ◌^◌, nat_le, List, [], ◌∷◌, length, map, take, Option, Some, None, codes, refl}
+use Rattle.std.specs.Prelude.{ℕ, ℤ, pos, ◌≡◌, ◌≤◌, ◌<◌, ◌^◌, nat_le, Bool, List, [], ◌∷◌, length, map, take, Option, Some, None, codes, refl}
 use Rattle.std.specs.Bool.{if◌then◌else◌}
 use Rattle.ct_base.specs.declared.numbers.RowKey.{RowKey}
 use Rattle.ct_entry.specs.Each.{numbered}
@@ -12,8 +12,13 @@ use Rattle.tx_document.specs.declared.entries.Entry.{Entry}
 use Rattle.tx_document.specs.Documents.{pair}
 use Rattle.tx_document.specs.Entries.{entry}
 use Rattle.ix_context.specs.Gathering.{IndexRowsView, nothing_gathered, with_entry, with_texts}
+use Rattle.ix_posting.specs.Forms.{counted_bytes, number_form, pair_form}
+use Rattle.ix_rows.specs.Firsts.{first_positions}
+use Rattle.ix_rows.specs.Runs.{with_run}
+use Rattle.ix_rows.specs.SpanRows.{section_term}
+use Rattle.ix_rows.specs.WordRows.{word_term}
 use Rattle.ix_context.specs.Indexes.{target_text}
-use Rattle.ix_context.specs.Postings.{IsPosting, indexed_text_limit, text_entries}
+use Rattle.ix_context.specs.Postings.{IsPosting, indexed_text_limit, is_section_entry, text_entries}
 use Rattle.ix_context.specs.laws.Postings.{most_places}
 
 -- ---- postings
@@ -44,6 +49,19 @@ with_postings g (p ∷ ps) = with_postings (with_entry g p.doc.0 (entry_in p)) p
 -- A PORTION of texts comes, the first of them as this document.
 abbrev pub with_portion : Prefs → IndexRowsView → ℕ → List (List ℕ) → IndexRowsView
 with_portion p g d texts = with_postings g (all_postings (postings_as p) d texts)
+
+-- ---- by runs
+
+-- the term of an entry, and the bytes of its places, as they stand in rows
+abbrev pub entry_term : Entry → List ℕ
+entry_term e = if is_section_entry e then section_term e.token else word_term e.stream e.token
+
+abbrev pub entry_places : Entry → List ℕ
+entry_places e = if is_section_entry e then counted_bytes pair_form e.places else counted_bytes number_form (first_positions e.places)
+
+-- documents come to one term, which is a section's or a word's, one behind the other, each with the bytes of its places
+abbrev pub with_term_run : IndexRowsView → Bool → List ℕ → List (ℕ × List ℕ) → IndexRowsView
+with_term_run g is_section t xs = if is_section then record g { sections = with_run g.sections t xs } else record g { words = with_run g.words t xs }
 
 -- ---- the texts of rows
 

@@ -140,10 +140,11 @@ fn changes_of_create<R: Threads + Sync, K: Keeper>(
 
 /// Adds the changes of a new index on this target, which gets a copy of the preferences. Each row that the table has in the
 /// range becomes a document of it, in order of the keys from 1 on, and the words of these rows' texts in all streams and their
-/// sections get postings. At most `degree` threads may read the texts; for now one does.
+/// sections get postings. Up to `degree` threads read the texts.
 ///
-/// Its cost is the length of these texts, times a logarithm, and a scan of the table's keys. It holds one text, and the rows of postings of
-/// all. TooMany where over 2^32 - 2 rows lie in the range. The batch is unchanged at each error.
+/// Its cost is the length of these texts, times a logarithm, and a scan of the table's keys. It holds the rows of postings of all, and one
+/// text; of several threads a portion of texts of a mebibyte, and its postings. TooMany where over 2^32 - 2 rows lie in the range. The
+/// batch is unchanged at each error.
 pub fn create<R: Threads + Sync, K: Keeper>(
     rt: &R,
     alloc: Global,

@@ -1,7 +1,8 @@
 //! Gathering the postings of rows that become documents.
 #![tactic(auto, using(ct_keep::specs::laws::Composing::reads_on, ct_keep::specs::laws::Composing::reads_short))]
 
-ghost use Rattle.std.specs.Prelude.{◌≡◌, ◌+◌, ◌<◌, ◌^◌, All, IfOk, OnOk, length, true};
+ghost use Rattle.std.specs.Prelude.{◌≡◌, ◌+◌, ◌<◌, ◌^◌, [], All, IfOk, OnOk, length, true};
+ghost use Rattle.std.specs.Bool.{OnTrue};
 ghost use Rattle.ct_keep.specs.KeeperViews.{OnlyReads};
 ghost use Rattle.ix_posting.specs.Forms.{counted_bytes, number_form, pair_form};
 ghost use Rattle.ix_rows.specs.WordRows.{word_term};
@@ -10,7 +11,7 @@ ghost use Rattle.tx_settings.specs.Attributes.{can_be_set};
 ghost use Rattle.ix_context.specs.Changes.{Adds};
 ghost use Rattle.ix_context.specs.Gathering.{nothing_gathered, with_word_entry, with_section_entry, with_entry, with_entries, with_text, gathering_changes};
 ghost use Rattle.ix_context.specs.GatheredRows.{AreGathered};
-ghost use Rattle.ix_context.specs.GatheringPortions.{Comes, entry_in, with_portion, with_postings};
+ghost use Rattle.ix_context.specs.GatheringPortions.{Comes, entry_in, entry_places, entry_term, with_portion, with_postings, with_term_run};
 ghost use Rattle.ix_context.specs.Indexes.{target_text};
 ghost use Rattle.ix_context.specs.Postings.{IsWord, IsSection, IsPosting, IsShortOrNone, if_short};
 ghost use Rattle.ix_rows.specs.Firsts.{first_positions};
@@ -22,7 +23,7 @@ use ct_entry::Kind;
 use ct_keep::{Batch, KeepFault, Keeper};
 use ix_invert::{Posting, invert};
 use ix_posting::put_places;
-use ix_rows::{TermRows, put_firsts, put_section_term, put_word_term};
+use ix_rows::{Run, TermRows, put_firsts, put_section_term, put_word_term};
 use std::alloc::Global;
 use std::marker::Model;
 use std::thread::Threads;
@@ -67,6 +68,60 @@ fn spell_section(spelling: &mut Spelling, section: &Entry) -> Result<(), Memory>
     spelling.places.clear();
     put_section_term(&mut spelling.term, name)?;
     put_places(&mut spelling.places, section.places.as_slice())
+}
+
+/// Spells an entry: its term, as it stands in a row's key, and its places.
+fn spell_entry(spelling: &mut Spelling, entry: &Entry) -> Result<(), Memory>
+    requires { IsPosting entry.now }
+    ensures term { OnOk result (spelling.new.term.items ≡ entry_term entry.now) }
+    ensures places { OnOk result (spelling.new.places.items ≡ entry_places entry.now) }
+{
+    if entry.stream == SECTIONS {
+        spell_section(spelling, entry)
+    } else {
+        spell_word(spelling, entry)
+    }
+}
+
+/// What came to one term, until a posting of another term comes.
+#[derive(Drop)]
+struct TermRun {
+    is_section: bool,
+    term: Vec<u8>,
+    documents: Run,
+}
+
+impl TermRun {
+    /// Nothing of no term. It takes no memory.
+    fn new(alloc: Global) -> TermRun
+        ensures { result.documents ≡ [] }
+    {
+        TermRun {
+            is_section: false,
+            term: Vec::new(alloc),
+            documents: Run::new(alloc),
+        }
+    }
+
+    /// Whether it is one of this term.
+    fn is_of(&self, is_section: bool, term: &[u8]) -> bool
+        ensures { OnTrue result ((self.now.is_section ≡ is_section) × (self.now.term.items ≡ term.now)) }
+    {
+        self.is_section == is_section && self.term.as_slice() == term
+    }
+
+    /// Begins anew with this term, without documents.
+    fn begin(&mut self, is_section: bool, term: &[u8]) -> Result<(), Memory>
+        ensures kind { OnOk result (self.new.is_section ≡ is_section) }
+        ensures term { OnOk result (self.new.term.items ≡ term.now) }
+        ensures none { OnOk result (self.new.documents ≡ []) }
+    {
+        self.is_section = is_section;
+        self.term.clear();
+        self.documents.clear();
+        self.term.extend_from_slice(term)?;
+        Ok(())
+    }
 }
 
 /// The rows of postings of words and of sections, of documents that come in rising order: their bytes, and nothing else of the texts.
@@ -210,15 +265,46 @@ impl IndexRows {
         Ok(())
     }
 
-    /// A posting comes, of its document.
+    /// The documents of a run come to the rows of its term.
+    fn put_run(&mut self, alloc: Global, run: &TermRun) -> Result<(), Memory>
+        ensures { OnOk result (self.new ≡ with_term_run self.old run.now.is_section run.now.term.items run.now.documents) }
+    {
+        if run.is_section {
+            self.sections.put_run(alloc, &run.term, &run.documents)
+        } else {
+            self.words.put_run(alloc, &run.term, &run.documents)
+        }
+    }
+
+    /// The run becomes one of this term. The documents of another term come to its rows before.
+    fn turn_to(
+        &mut self,
+        alloc: Global,
+        run: &mut TermRun,
+        is_section: bool,
+        term: &[u8],
+    ) -> Result<(), Memory>
+        ensures gathers { OnOk result (with_term_run self.new run.new.is_section run.new.term.items run.new.documents ≡ with_term_run self.old run.old.is_section run.old.term.items run.old.documents) }
+        ensures kind { OnOk result (run.new.is_section ≡ is_section) }
+        ensures term { OnOk result (run.new.term.items ≡ term.now) }
+    {
+        if run.is_of(is_section, term) {
+            return Ok(());
+        }
+        self.put_run(alloc, run)?;
+        run.begin(is_section, term)
+    }
+
+    /// A posting comes behind the run: to it, if it is of the run's term.
     fn put_posting(
         &mut self,
         alloc: Global,
         spelling: &mut Spelling,
+        run: &mut TermRun,
         posting: Posting,
     ) -> Result<(), Memory>
         requires { Comes posting }
-        ensures { OnOk result (self.new ≡ with_entry self.old posting.doc.0 (entry_in posting)) }
+        ensures { OnOk result (with_term_run self.new run.new.is_section run.new.term.items run.new.documents ≡ with_entry (with_term_run self.old run.old.is_section run.old.term.items run.old.documents) posting.doc.0 (entry_in posting)) }
     {
         let document = posting.doc.0;
         let entry = Entry {
@@ -226,10 +312,12 @@ impl IndexRows {
             token: posting.token,
             places: posting.places,
         };
-        self.put_entry(alloc, spelling, document, &entry)
+        spell_entry(spelling, &entry)?;
+        self.turn_to(alloc, run, entry.stream == SECTIONS, &spelling.term)?;
+        run.documents.push(document, &spelling.places)
     }
 
-    /// Postings come, each of its document.
+    /// Postings come, each of its document. A term is looked up once for each run of its postings.
     fn put_postings(&mut self, alloc: Global, postings: Vec<Posting>) -> Result<(), Memory>
         requires { All Comes postings.items }
         ensures { OnOk result (self.new ≡ with_postings self.old postings.items) }
@@ -238,10 +326,11 @@ impl IndexRows {
             term: Vec::new(alloc),
             places: Vec::new(alloc),
         };
+        let mut run = TermRun::new(alloc);
         for posting in postings {
-            self.put_posting(alloc, &mut spelling, posting)?;
+            self.put_posting(alloc, &mut spelling, &mut run, posting)?;
         }
-        Ok(())
+        self.put_run(alloc, &run)
     }
 
     /// The words and the sections of a portion of texts come, the first of which becomes this document. Up to so many threads read a

@@ -184,10 +184,11 @@ fn changes_of_sync<R: Threads + Sync, K: Keeper>(
 /// Adds the changes by which each row that waits becomes a document of the index: in order of their keys they take the next
 /// document numbers, and the words of their texts in all streams and their sections get postings, by the preferences of the
 /// index. It is untidy then, and an optimisation goes on where it would. Nothing where no row waits, and where there is no such
-/// index. At most `degree` threads may read the texts; for now one does.
+/// index. Up to `degree` threads read the texts.
 ///
-/// Its cost is the length of these texts, times a logarithm. It holds one text, and the rows of postings of all. TooMany where the
-/// index would have given over 2^32 - 2 documents. The batch is unchanged at each error.
+/// Its cost is the length of these texts, times a logarithm. It holds the rows of postings of all, and one text; of several threads a
+/// portion of texts of a mebibyte, and its postings. TooMany where the index would have given over 2^32 - 2 documents. The batch is
+/// unchanged at each error.
 pub fn sync<R: Threads + Sync, K: Keeper>(
     rt: &R,
     alloc: Global,

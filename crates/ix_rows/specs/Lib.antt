@@ -8,6 +8,7 @@ pub mod Firsts
 pub mod RowMaps
 pub mod Gathering
 pub mod Coming
+pub mod Runs
 pub mod GrowingLists
 pub mod Taking
 pub mod PlacedRows

@@ -1,6 +1,5 @@
 -- The growing rows of terms, and what is put into a batch once all documents have come.
-use Rattle.std.specs.Prelude.{ℕ, ◌≡◌, List, [], ◌∷◌, ◌++◌, map, Option, Some, None, Vec, codes, refl}
-use Rattle.std.specs.declared.alloc.Global.{Global}
+use Rattle.std.specs.Prelude.{ℕ, ◌≡◌, List, [], ◌∷◌, ◌++◌, map, Option, Some, None, codes, refl}
 use Rattle.std.specs.Ordering.{nat_cmp}
 use Rattle.std.specs.Cmp.Lexicographic.{slice_cmp}
 use Rattle.std.specs.Coded.{Coded, coded_list, coded_ℕ}
@@ -50,15 +49,15 @@ row_map_changes kind i m = each (λ e. row_changes kind i e.0 (grown_rows e.1)) 
 
 -- ---- a map in memory
 
-abbrev pub VecRows : Type 0
-VecRows = Vec ℕ Global × Growing
+abbrev pub HeldRows : Type 0
+HeldRows = List ℕ × Growing
 
-abbrev pub row_map_of : List VecRows → TermRowsView
-row_map_of es = seen_map (slice_cmp nat_cmp) (λ (t : Vec ℕ Global). t.items) (λ g. g) es
+abbrev pub row_map_of : List HeldRows → TermRowsView
+row_map_of es = seen_map (slice_cmp nat_cmp) (λ (t : List ℕ). t) (λ g. g) es
 
 -- the terms with their rows, as a list
-abbrev pub seen_terms : List VecRows → List (List ℕ × Growing)
-seen_terms es = map (λ e. (e.0.items, e.1)) es
+abbrev pub seen_terms : List HeldRows → List (List ℕ × Growing)
+seen_terms es = map (λ e. (e.0, e.1)) es
 
 -- computed example: a row of the section `title` that begins with the document 7
 a_row_is_put : spell (row_changes kind.Spans (codes "di") (5 ∷ codes "title") ((7, 1 ∷ 7 ∷ 1 ∷ 1 ∷ 2 ∷ []) ∷ []))

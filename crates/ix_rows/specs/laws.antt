@@ -5,6 +5,7 @@ pub mod Splits
 pub mod Growing
 pub mod Gathering
 pub mod Coming
+pub mod Runs
 pub mod GrowingLists
 pub mod Stores
 pub mod Tidies

@@ -7,7 +7,9 @@ mod firsts;
 mod growing;
 mod laws;
 mod row_maps;
+mod runs;
 mod taking;
+mod term_keys;
 mod terms;
 
 pub use firsts::put_firsts;
@@ -15,5 +17,6 @@ pub use laws::{
     dead_documents_stand, lists_have_one_split, new_documents_stand, rows_grow_by_term,
 };
 pub use row_maps::TermRows;
+pub use runs::Run;
 pub use taking::{rows_in, rows_of};
 pub use terms::{put_section_term, put_word_term};

@@ -5,8 +5,11 @@ ghost use Rattle.std.specs.FinMap.{empty};
 ghost use Rattle.ct_entry.specs.Changes.{spell};
 ghost use Rattle.ix_rows.specs.Spelling.{row_key};
 ghost use Rattle.ix_rows.specs.RowMaps.{with_posting, row_changes, row_map_changes, seen_row};
+ghost use Rattle.ix_rows.specs.Runs.{with_run};
 
 use crate::growing::{GrowingRows, SpeltRow, begun_rows};
+use crate::runs::{Run, rows_of_run};
+use crate::term_keys::TermKey;
 use ct_base::{Memory, Name};
 use ct_bytes::put_u32;
 use ct_entry::{Kind, put_entry};
@@ -18,12 +21,15 @@ use std::marker::Model;
 /// The rows of terms, each term by its bytes as they stand in a key. What it keeps of the documents that came is the bytes of the rows.
 #[derive(Drop)]
 pub struct TermRows {
-    rows: BTreeMap<Vec<u8>, GrowingRows>,
+    rows: BTreeMap<TermKey, GrowingRows>,
+    /// The term that is looked up, in memory that is used again for each.
+    sought: TermKey,
 }
 
 impl Model for TermRows {
     ghost use Rattle.std.specs.BTreeMap.{IsOrdered};
-    ghost use Rattle.ct_keep.specs.Pairs.{byte_order};
+    ghost use Rattle.std.specs.Ordering.{nat_cmp};
+    ghost use Rattle.std.specs.Cmp.Lexicographic.{slice_cmp};
     ghost use Rattle.ix_rows.specs.RowMaps.{TermRowsView, row_map_code, row_map_of};
 
     ghost Value = { TermRowsView };
@@ -32,7 +38,7 @@ impl Model for TermRows {
 
     ghost view = { λ m. row_map_of m.rows.entries };
 
-    ghost invariant = { λ m. IsOrdered byte_order m.rows };
+    ghost invariant = { λ m. IsOrdered (slice_cmp nat_cmp) m.rows };
 }
 
 /// What stands in the key of a row behind its index.
@@ -69,6 +75,7 @@ impl TermRows {
     {
         TermRows {
             rows: BTreeMap::new(alloc),
+            sought: TermKey::new(alloc),
         }
     }
 
@@ -86,11 +93,31 @@ impl TermRows {
     ) -> Result<(), Memory>
         ensures { OnOk result (self.new ≡ with_posting self.old term.now document places.now) }
     {
-        match self.rows.get_mut(term) {
+        self.sought.set(term)?;
+        match self.rows.get_mut(&self.sought) {
             Some(rows) => rows.add(alloc, document, places),
             None => {
                 let rows = begun_rows(alloc, document, places)?;
-                self.rows.insert(Vec::from_slice(alloc, term)?, rows)?;
+                self.rows.insert(TermKey::of(alloc, term)?, rows)?;
+                Ok(())
+            }
+        }
+    }
+
+    /// Documents come to a term, one behind the other, as if each came by itself. The term is looked up once, whatever their number.
+    /// At an error, which is want of memory, the map may only be dropped.
+    pub fn put_run(&mut self, alloc: Global, term: &[u8], run: &Run) -> Result<(), Memory>
+        ensures { OnOk result (self.new ≡ with_run self.old term.now run.now) }
+    {
+        if run.is_empty() {
+            return Ok(());
+        }
+        self.sought.set(term)?;
+        match self.rows.get_mut(&self.sought) {
+            Some(rows) => run.add_to(alloc, rows),
+            None => {
+                let rows = rows_of_run(alloc, run)?;
+                self.rows.insert(TermKey::of(alloc, term)?, rows)?;
                 Ok(())
             }
         }

@@ -17,7 +17,7 @@ use Rattle.ix_context.specs.laws.Bodies.{after_loss-untidied, untidy_is}
 use Rattle.ix_context.specs.laws.Notes.{part_untidy}
 
 -- the entry is as long as it was
-rest_long : (x y : IndexOf ContextIndex) → x.prefs ≡ y.prefs → length (context_rest x) ≡ length (context_rest y)
+pub rest_long : (x y : IndexOf ContextIndex) → x.prefs ≡ y.prefs → length (context_rest x) ≡ length (context_rest y)
 rest_long x y prefs =
     let before = length-append (prefs_bytes x.prefs) (0 ∷ (to_be_bytes w32 (x.body.part.given + 1) ++ tidiness_byte x.body.part.tidiness ∷ [])) in
     let after = length-append (prefs_bytes y.prefs) (0 ∷ (to_be_bytes w32 (y.body.part.given + 1) ++ tidiness_byte y.body.part.tidiness ∷ [])) in

@@ -1,5 +1,4 @@
-use Rattle.std.proofs.Common.{ℕ, Vec, ap, ◌∙◌}
-use Rattle.std.specs.declared.alloc.Global.{Global}
+use Rattle.std.proofs.Common.{ℕ, List, ap, ◌∙◌}
 use Rattle.std.specs.Ordering.{nat_cmp}
 use Rattle.std.specs.Cmp.Lexicographic.{slice_cmp}
 use Rattle.ct_base.specs.laws.SortedMaps.{seen-none}
@@ -8,4 +7,4 @@ use Rattle.ix_rows.specs.RowMaps.{row_map_of}
 use Rattle.ix_rows.proofs.row_maps.TermRows.new.Goals as goal
 
 pub returns : goal.returns
-returns c = ap row_map_of c.new.ensures.empty ∙ seen-none (slice_cmp nat_cmp) (λ (t : Vec ℕ Global). t.items) (λ (g : Growing). g)
+returns c = ap row_map_of c.new.ensures.empty ∙ seen-none (slice_cmp nat_cmp) (λ (t : List ℕ). t) (λ (g : Growing). g)
