@@ -1,4 +1,3 @@
 pub mod Optimising
-pub mod Alike
 pub mod Limited
 pub mod laws

@@ -2,7 +2,6 @@ pub mod Places
 pub mod Tidies
 pub mod Parts
 pub mod Optimised
-pub mod Alike
 pub mod Shapes
 pub mod Lists
 pub mod Limited

@@ -1,15 +1,6 @@
 //! What holds of indexes that were optimised. Each function here only states laws, which its contract proves.
 
-ghost use Rattle.ix_optimize.specs.Alike.{AlikeRead, OptimisedAreAlike, StatementsKeepAlike};
 ghost use Rattle.ix_optimize.specs.Limited.{LeavesFewer, LeavesNone, MakesContent, ReachDone};
-
-/// An optimisation changes how tidy an index is and what is wasted, and nothing else. Statements make of indexes that differ in these
-/// alone indexes that differ in these alone, and replies read the same of them: so an optimisation changes no later reply.
-pub fn optimising_changes_no_reply()
-    ensures optimised { OptimisedAreAlike }
-    ensures later { StatementsKeepAlike }
-    ensures read { AlikeRead }
-{}
 
 /// An optimisation leaves exactly the split of what stays of each handled term, the rows that other terms had, and all other entries. One with a limit that answers More leaves exactly
 /// as many terms fewer behind its place as it handled, and where it answers Done none is left: so where d terms are left behind the place, one of

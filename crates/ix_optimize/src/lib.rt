@@ -6,6 +6,6 @@ mod levels;
 mod optimizing;
 mod places;
 
-pub use laws::{limited_optimising_ends, optimising_changes_no_reply};
+pub use laws::limited_optimising_ends;
 pub use levels::{Level, Progress};
 pub use optimizing::optimize;
