@@ -5,7 +5,7 @@ use Rattle.std.specs.FinMap.{get}
 use Rattle.std.proofs.lemmas.List.{take_more, take_all, map-append, length-map}
 use Rattle.ct_base.specs.declared.numbers.RowKey.{RowKey}
 use Rattle.ct_keep.specs.Content.{Content, after, weight}
-use Rattle.ct_entry.specs.Keys.{Key, at}
+use Rattle.ct_entry.specs.Keys.{Key}
 use Rattle.ct_entry.specs.Each.{each}
 use Rattle.ct_entry.specs.Lists.{IsIn}
 use Rattle.ct_entry.specs.laws.Each.{each-append}
@@ -30,12 +30,15 @@ use Rattle.db_rows.specs.Meeting.{meeting_keys}
 use Rattle.db_state.specs.States.{StoreState, StandsForState}
 use Rattle.db_state.specs.Effects.{Effect, Refused, Does, Checks, with_found}
 use Rattle.db_state.specs.Shapes.{AreStoreChanges, HasStoreValue}
-use Rattle.db_state.specs.laws.Serving.{removals_behind}
+use Rattle.db_state.specs.Entries.{Becomes}
+use Rattle.db_state.specs.Plans.{IsPlan}
+use Rattle.db_state.specs.declared.plans.Plan.TheVariants.{Done}
+use Rattle.db_state.specs.laws.Serving.{plan_does, removals_behind}
 use Rattle.db_change.proofs.ShapeSteps.{row_and_notes, shaped_alone}
 use Rattle.db_change.specs.Noting.{noted_on}
 use Rattle.db_change.specs.Deleting.{TakesFromTable, all_gone_changes, delete_from, delete_rows, rows_deleted, without_rows}
 use Rattle.db_change.specs.laws.MetRows.{met_apart, met_there}
-use Rattle.db_change.specs.laws.GoneRows.{gone_rows_stand, delete_drops, drops_weigh_nothing}
+use Rattle.db_change.specs.laws.GoneRows.{gone_rows_become, delete_drops, drops_weigh_nothing}
 
 -- ---- the changes of each of several, one after the other
 
@@ -139,12 +142,11 @@ module _ (m : StoreState) (t : List ℕ) (conds : List Cond) where
           ∙ ap (λ (rs : List ℤ). spell (all_gone_changes c m t x.columns (noted_on m.indexes t) rs)) met
 
       pub delete_done : (count : ℕ) → count ≡ length rows → ((done : Effect) → Checks None (check_conds columns conds done) done)
-          → (n : StoreState) × (delete_from m t conds ≡ Does n (rows_deleted count)) × StandsForState (after batch c) n
-      delete_done count counted passed = (
-        without_rows m t (meeting_keys x conds),
-        delete_some ∙ passed (delete_rows m t (meeting_keys x conds))
-            ∙ ap (λ (rs : List ℤ). Does (without_rows m t (meeting_keys x conds)) (rows_deleted (length rs))) (sym met)
-            ∙ ap (λ (n : ℕ). Does (without_rows m t (meeting_keys x conds)) (rows_deleted n)) (length-map rows (λ (row : RowKey). row.0) ∙ sym counted),
-        subst (λ (ws : List (List ℕ × Option (List ℕ))). StandsForState (after ws c) (without_rows m t (meeting_keys x conds))) (sym batch_is)
-            (gone_rows_stand c m t x (meeting_keys x conds) stands here (met_apart x conds) (met_there m.tables t x conds here)),
-      )
+          → IsPlan (delete_from m t conds) (rows_deleted count) c (Done batch)
+      delete_done count counted passed =
+          plan_does (delete_from m t conds) c (without_rows m t (meeting_keys x conds)) (rows_deleted count) batch
+          (delete_some ∙ passed (delete_rows m t (meeting_keys x conds))
+          ∙ ap (λ (rs : List ℤ). Does (without_rows m t (meeting_keys x conds)) (rows_deleted (length rs))) (sym met)
+          ∙ ap (λ (n : ℕ). Does (without_rows m t (meeting_keys x conds)) (rows_deleted n)) (length-map rows (λ (row : RowKey). row.0) ∙ sym counted))
+          (subst (λ (ws : List (List ℕ × Option (List ℕ))). Becomes (without_rows m t (meeting_keys x conds)) c (after ws c)) (sym batch_is)
+          (gone_rows_become c m t x (meeting_keys x conds) stands here (met_apart x conds) (met_there m.tables t x conds here)))

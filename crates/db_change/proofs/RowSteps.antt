@@ -13,10 +13,11 @@ use Rattle.tb_table.specs.Tables.{Table, numbers_of, texts_of}
 use Rattle.tb_table.specs.Spelling.{insert_changes}
 use Rattle.ix_indexes.specs.Noting.{Noted, all_noted_changes}
 use Rattle.db_state.specs.States.{StoreState, StandsForState}
+use Rattle.db_state.specs.Entries.{Becomes}
 use Rattle.db_change.specs.Noting.{noted_on}
 use Rattle.db_change.specs.Inserting.{behind_key, coming, kept_value, others_kept, with_new_row, IsFreeRow, IsNumberKept, IsTextKept}
 use Rattle.db_change.proofs.KeptValues.{others_fit, few_others}
-use Rattle.db_change.specs.laws.NewRows.{new_row_changes, new_row_stands}
+use Rattle.db_change.specs.laws.NewRows.{new_row_changes, new_row_becomes}
 
 module _ (c : Content) (m : StoreState) (t : List ℕ) (x : Table) (r : ℤ) (values vs : List Operand) (stands : StandsForState c m) (here : get m.tables t ≡ Some x) (free : IsFreeRow x values r) (row : IsRow r)
     (behind : vs ≡ behind_key values) (numbers : All IsNumberKept vs) (texts : All IsTextKept vs) (es : List (List ℕ × Noted)) (noted : es ≡ noted_on m.indexes t)
@@ -33,7 +34,7 @@ module _ (c : Content) (m : StoreState) (t : List ℕ) (x : Table) (r : ℤ) (va
       ∙ ap (λ (us : List Operand). spell (new_row_changes (at c) t r (map kept_value us) es)) behind
       ∙ ap (λ (ns : List (List ℕ × Noted)). spell (new_row_changes (at c) t r (others_kept values) ns)) noted
 
-  pub batch_stands : StandsForState (after batch c) (with_new_row m t r (others_kept values))
-  batch_stands =
-      subst (λ (ws : List (List ℕ × Option (List ℕ))). StandsForState (after ws c) (with_new_row m t r (others_kept values))) (sym batch_is)
-      (new_row_stands c m t x r (others_kept values) stands here free.free row (others_fit x values r free (subst (All IsNumberKept) behind numbers) (subst (All IsTextKept) behind texts)) (leb-false row_limit (length (entries x.rows)) free.few))
+  pub batch_becomes : Becomes (with_new_row m t r (others_kept values)) c (after batch c)
+  batch_becomes =
+      subst (λ (ws : List (List ℕ × Option (List ℕ))). Becomes (with_new_row m t r (others_kept values)) c (after ws c)) (sym batch_is)
+      (new_row_becomes c m t x r (others_kept values) stands here free.free row (others_fit x values r free (subst (All IsNumberKept) behind numbers) (subst (All IsTextKept) behind texts)) (leb-false row_limit (length (entries x.rows)) free.few))

@@ -12,9 +12,13 @@ use Rattle.st_parse.specs.declared.statements.ColumnText.{ColumnText}
 use Rattle.db_state.specs.Effects.{Does}
 use Rattle.db_change.specs.Creating.{is_key_first, names_differ, all_sized, column_of, with_new_table, check_table, create_table, table_created}
 use Rattle.db_state.specs.States.{StoreState, StandsForState}
+use Rattle.db_state.specs.Entries.{Becomes}
+use Rattle.db_state.specs.Plans.{IsPlan}
+use Rattle.db_state.specs.declared.plans.Plan.TheVariants.{Done}
+use Rattle.db_state.specs.laws.Serving.{plan_does}
 use Rattle.db_state.specs.laws.Chains.{passed}
 use Rattle.std.proofs.lemmas.List.Elements.{All-head, All-tail}
-use Rattle.db_change.specs.laws.NewTables.{AllNamed, IsFreeTable, created_table_stands}
+use Rattle.db_change.specs.laws.NewTables.{AllNamed, IsFreeTable, created_table_becomes}
 
 -- the columns of the batch have names
 pub all_named : (cs : List ColumnText) → All (λ (k : Column). IsName k.name) (map column_of cs) → AllNamed cs
@@ -43,11 +47,9 @@ table_read m t cs there many is most = ap (λ (b : Bool). check_table b (nat_le 
 -- the batch of a table that no check refuses
 pub table_made : (m : StoreState) (k : Content) (t : List ℕ) (cs : List ColumnText) (batch : List (List ℕ × Option (List ℕ))) → StandsForState k m → IsName t
     → (all_sized cs ≡ true → batch ≡ spell (table_changes t (map column_of cs))) → (all_sized cs ≡ true → All (λ (x : Column). IsName x.name) (map column_of cs)) → create_table m t cs ≡ Does (with_new_table m t cs) table_created
-    → (n : StoreState) × (create_table m t cs ≡ Does n table_created) × StandsForState (after batch k) n
+    → IsPlan (create_table m t cs) table_created k (Done batch)
 table_made m k t cs batch stands name changes named is =
     let free = table_free m t cs _ _ is in
-    let named = all_named cs (named free.sized) in (
-      with_new_table m t cs,
-      is,
-      subst (λ (b : List (List ℕ × Option (List ℕ))). StandsForState (after b k) (with_new_table m t cs)) (sym (changes free.sized)) (created_table_stands k m t cs stands name named free),
-    )
+    let named = all_named cs (named free.sized) in
+    plan_does (create_table m t cs) k (with_new_table m t cs) table_created batch is
+    (subst (λ (b : List (List ℕ × Option (List ℕ))). Becomes (with_new_table m t cs) k (after b k)) (sym (changes free.sized)) (created_table_becomes k m t cs stands name named free))

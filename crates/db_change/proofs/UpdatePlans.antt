@@ -21,14 +21,16 @@ use Rattle.db_state.specs.States.{StoreState, StandsForState}
 use Rattle.db_state.specs.Columns.{first_unknown}
 use Rattle.db_state.specs.Effects.{Effect, Refused, Does, with_found, Checks}
 use Rattle.db_state.specs.laws.Chains.{passed}
+use Rattle.db_state.specs.Entries.{Becomes}
 use Rattle.db_state.specs.Plans.{IsPlan}
+use Rattle.db_state.specs.laws.Serving.{plan_does}
 use Rattle.db_state.specs.declared.plans.Plan.TheVariants.{Done}
 use Rattle.db_change.specs.Inserting.{is_of_sort, is_too_long}
 use Rattle.ix_indexes.specs.Noting.{Noted, noted_named}
 use Rattle.db_change.specs.Updating.{assign_columns, sets_key, has_twice, of_its_sort, places_set, check_update, with_updates, rows_updated, update_rows, update, indexes_set, all_update_changes, IsKeptAssign, UpdatesTable}
 use Rattle.db_change.specs.laws.SetValues.{SetFits, others_fit_set}
 use Rattle.db_change.specs.laws.SetIndexes.{named_on_columns, names_set, noted_on_columns}
-use Rattle.db_change.specs.laws.ChangedRows.{changed_rows_stand}
+use Rattle.db_change.specs.laws.ChangedRows.{changed_rows_become}
 use Rattle.db_change.specs.laws.MetRows.{met_apart, met_there}
 use Rattle.db_change.proofs.AssignSteps.{set_values_fit}
 use Rattle.db_change.proofs.InsertSteps.{refuse_by_passed}
@@ -65,12 +67,11 @@ module _ (m : StoreState) (t : List ℕ) (assigns : List Assign) (conds : List C
     pub update_made : (k : Content) → StandsForState k m → ((done : Effect) → check_update columns assigns conds done ≡ done)
         → All IsKeptAssign assigns → (rows : List ℤ) → rows ≡ meeting_keys x conds → (count : ℕ) → count ≡ length rows
         → (batch : List (List ℕ × Option (List ℕ))) → UpdatesTable k m t columns assigns rows batch → IsPlan (update m t assigns conds) (rows_updated count) k (Done batch)
-    update_made k stands checks kept rows rows_are count counted batch batch_is = (
-      with_updates m t x.columns assigns (meeting_keys x conds),
-      update_some ∙ checks (update_rows m t x.columns assigns (meeting_keys x conds)) ∙ ap (λ (n : ℕ). Does (with_updates m t x.columns assigns (meeting_keys x conds)) (rows_updated n)) (sym (counted ∙ ap (λ (rs : List ℤ). length rs) rows_are)),
-      subst (λ (ws : List (List ℕ × Option (List ℕ))). StandsForState (after ws k) (with_updates m t x.columns assigns (meeting_keys x conds))) (sym whole)
-          (changed_rows_stand k m t x assigns names stands here fits (named_on_columns (places_set x.columns assigns) m.indexes t) (meeting_keys x conds) (met_apart x conds) (met_there m.tables t x conds here)),
-    )
+    update_made k stands checks kept rows rows_are count counted batch batch_is =
+        plan_does (update m t assigns conds) k (with_updates m t x.columns assigns (meeting_keys x conds)) (rows_updated count) batch
+        (update_some ∙ checks (update_rows m t x.columns assigns (meeting_keys x conds)) ∙ ap (λ (n : ℕ). Does (with_updates m t x.columns assigns (meeting_keys x conds)) (rows_updated n)) (sym (counted ∙ ap (λ (rs : List ℤ). length rs) rows_are)))
+        (subst (λ (ws : List (List ℕ × Option (List ℕ))). Becomes (with_updates m t x.columns assigns (meeting_keys x conds)) k (after ws k)) (sym whole)
+        (changed_rows_become k m t x assigns names stands here fits (named_on_columns (places_set x.columns assigns) m.indexes t) (meeting_keys x conds) (met_apart x conds) (met_there m.tables t x conds here)))
       where
         names : List (List ℕ)
         names = names_set (places_set x.columns assigns) m.indexes t

@@ -25,7 +25,8 @@ use Rattle.ct_keep.specs.Content.{Content, after}
 use Rattle.tb_table.specs.Spelling.{insert_changes}
 use Rattle.db_state.specs.declared.plans.Plan.{Plan}
 use Rattle.db_state.specs.Plans.{IsPlan}
-use Rattle.db_state.specs.States.{StoreState, StandsForState}
+use Rattle.db_state.specs.States.{StoreState}
+use Rattle.db_state.specs.Entries.{Becomes}
 use Rattle.db_state.specs.Effects.{Effect, Does, refuse, refuse_by, with_found, Refused}
 use Rattle.db_state.specs.Columns.{first_unknown}
 use Rattle.db_rows.specs.Checking.{is_beyond_operand}
@@ -193,9 +194,9 @@ inserted_row_changes t r values = insert_changes t r (numbers_of (map kept_value
 abbrev pub coming : ℤ → List Value → RowChange
 coming r vs = record { row = r; old = None; new = Some vs }
 
--- a batch that makes of the content one that stands for the state with the new row
+-- a batch by which the content comes to stand for the state with the new row
 abbrev pub MakesRow : StoreState → Content → List ℕ → ℤ → List Operand → List (List ℕ × Option (List ℕ)) → Type 0
-MakesRow m c t r values batch = StandsForState (after batch c) (with_new_row m t r (others_kept values))
+MakesRow m c t r values batch = Becomes (with_new_row m t r (others_kept values)) c (after batch c)
 
 -- what the statement comes to in a table with these columns
 abbrev pub PlansRow : StoreState → Content → Table → List ℕ → List Column → List Operand → Result Plan KeepFault → Type 0

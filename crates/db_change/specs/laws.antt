@@ -1,4 +1,6 @@
 pub mod LostRows
+pub mod SamePlaces
+pub mod NotedDocuments
 pub mod NewRows
 pub mod NewTables
 pub mod GoneRows
@@ -8,3 +10,4 @@ pub mod GoneTables
 pub mod SetValues
 pub mod SetIndexes
 pub mod ChangedRows
+pub mod Alike

@@ -1,3 +1,4 @@
 pub mod Answering
 pub mod ShownStore
 pub mod Telling
+pub mod Alike

@@ -66,7 +66,7 @@ use Rattle.db_names.specs.declared.heads.IndexKind.TheVariants.{Context}
 use Rattle.db_names.specs.Promises.{is_on_table}
 use Rattle.db_cond.specs.Faults.{UnknownName, OutOfRange, LimitReached}
 use Rattle.db_state.specs.Columns.{column_place}
-use Rattle.db_state.specs.Effects.{Effect, Does, refuse, with_found, state_by}
+use Rattle.db_state.specs.Effects.{Effect, Does, Works, Creates, Syncs, refuse, with_found, state_by}
 use Rattle.db_state.specs.Lines.{call_done}
 use Rattle.tx_prefs.specs.Preferences.{no_preferences}
 use Rattle.th_store.specs.Thesauri.{no_thesauri}
@@ -83,8 +83,9 @@ use Rattle.db_change.specs.laws.NewRows.{new_row_changes, new_row_stands}
 use Rattle.db_state.specs.Lookups.{is_on_column}
 use Rattle.db_index.specs.declared.kinds.BuiltKind.TheVariants as built
 use Rattle.db_index.specs.Asking.{as_wanted, requests_in}
-use Rattle.db_index.specs.Indexing.{IsFreeIndex, all_rows, check_index, create_index_by, index_created, target, has_too_many_rows, has_index_on, passes_limit, with_new_index}
-use Rattle.db_index.specs.Syncing.{has_too_many, its_sync_changes, sync_as_kind, sync_found, with_synced}
+use Rattle.db_index.specs.Indexing.{IsFreeIndex, all_rows, check_index, create_index_by, index_created, target, has_too_many_rows, has_index_on, passes_limit, index_made_by, with_new_index}
+use Rattle.db_state.specs.Entries.{its_sync_changes}
+use Rattle.db_index.specs.Syncing.{has_too_many, sync_as_kind, sync_found, with_synced}
 use Rattle.db_index.specs.laws.NewMarks.{new_index_stands, synced_stands}
 use Rattle.db_engine.specs.Steps.{effect}
 use Rattle.db_engine.specs.ShownStore.{shown_columns, table_statement, index_statement, first_values, sync_statement, second_values, shown_statements, after_all, shown_entries, shown_store, shown_state}
@@ -496,12 +497,16 @@ table_is_created =
     ∙ ap (λ (es : List (List ℕ × Table)). check_table false (nat_le table_limit (length es)) docs shown_columns done) (nothing (slice_cmp nat_cmp) nat_list_cmp_total)
     ∙ ap (λ (ts : Tables). Does (record { tables = ts; indexes = empty; preferences = no_preferences; thesauri = no_thesauri }) table_created) tables_created
 
-index_is_created : effect without_index index_statement ≡ Does (state_with [] 0 []) index_created
+-- the index is made, whatever the state is then
+abbrev created_to : StoreState → Effect
+created_to n = Works n index_created (Creates without_index (inl all_rows) di (target docs 1) default_prefs)
+
+index_is_created : effect without_index index_statement ≡ created_to (state_with [] 0 [])
 index_is_created =
     ap (λ (o : Option Table). with_found o (UnknownName docs) (λ (x : Table). with_found (column_place (codes "body") x.columns) (UnknownName (codes "body")) (λ (place : ℕ). create_index_by without_index di docs built.Context None (requests_in built.Context None) x place))) (table_there [])
-    ∙ ap (λ (b : Bool). check_index b true (Some (as_wanted default_prefs [])) true (passes_limit without_index docs built.Context) di (λ w. Does (with_new_index without_index di docs built.Context 1 w) index_created)) index_free.free
-    ∙ ap (λ (b : Bool). refuse b LimitReached (Does (with_new_index without_index di docs built.Context 1 (as_wanted default_prefs [])) index_created)) index_free.few
-    ∙ ap (λ (xs : Names Index). Does (record { tables = tables_with []; indexes = xs; preferences = no_preferences; thesauri = no_thesauri }) index_created) indexes_created
+    ∙ ap (λ (b : Bool). check_index b true (Some (as_wanted default_prefs [])) true (passes_limit without_index docs built.Context) di (index_made_by without_index di docs built.Context 1)) index_free.free
+    ∙ ap (λ (b : Bool). refuse b LimitReached (index_made_by without_index di docs built.Context 1 (as_wanted default_prefs []))) index_free.few
+    ∙ ap (λ (xs : Names Index). created_to (record { tables = tables_with []; indexes = xs; preferences = no_preferences; thesauri = no_thesauri })) indexes_created
 
 module _ (rows : List (ℤ × List Value)) (given : ℕ) (marks : List (ℤ × Its)) (r : ℤ) (values : List Operand) (rows_rise : T (is_sorted int_cmp rows)) (marks_rise : T (is_sorted int_cmp marks))
     (then_rows : T (is_sorted int_cmp (put_pair int_cmp r (others_kept values) rows))) (then_marks : T (is_sorted int_cmp (put_pair int_cmp r Pending marks))) (free : find int_cmp r rows ≡ None) where
@@ -523,13 +528,17 @@ module _ (rows : List (ℤ × List Value)) (given : ℕ) (marks : List (ℤ × I
       ∙ ap (λ (xs : Names Index). Does (record { tables = us; indexes = xs; preferences = no_preferences; thesauri = no_thesauri }) row_created) (indexes_with_note rows given marks r (others_kept values) rows_rise marks_rise then_rows then_marks free)
       ∙ ap (λ (ts : Tables). Does (record { tables = ts; indexes = indexes_with given (put_pair int_cmp r Pending marks); preferences = no_preferences; thesauri = no_thesauri }) row_created) (tables_with_row rows given marks r (others_kept values) rows_rise marks_rise then_rows then_marks free)
 
-index_is_synced : effect (state_with one_row 0 ((pos 1, Pending) ∷ [])) sync_statement ≡ Does (state_with one_row 1 ((pos 1, Settled tt) ∷ [])) call_done
+-- it is synchronised, whatever the state is then
+abbrev synced_to : StoreState → Effect
+synced_to n = Works n call_done (Syncs (state_with one_row 0 ((pos 1, Pending) ∷ [])) di)
+
+index_is_synced : effect (state_with one_row 0 ((pos 1, Pending) ∷ [])) sync_statement ≡ synced_to (state_with one_row 1 ((pos 1, Settled tt) ∷ []))
 index_is_synced =
     let m = state_with one_row 0 ((pos 1, Pending) ∷ []) in
     ap (λ (o : Option Index). sync_as_kind (option_map (λ (x : Index). kinds.kind x.body) o) m (Some di) (TextArg di ∷ [])) (index_there 0 ((pos 1, Pending) ∷ []))
     ∙ ap (λ (o : Option Index). with_found o (UnknownName di) (λ (x : Index). sync_found m di x)) (index_there 0 ((pos 1, Pending) ∷ []))
-    ∙ ap (λ (b : Bool). refuse b LimitReached (Does (with_synced m di) call_done)) few_enough
-    ∙ ap (λ (xs : Names Index). Does (record { tables = tables_with one_row; indexes = xs; preferences = no_preferences; thesauri = no_thesauri }) call_done) indexes_synced
+    ∙ ap (λ (b : Bool). refuse b LimitReached (synced_to (with_synced m di))) few_enough
+    ∙ ap (λ (xs : Names Index). synced_to (record { tables = tables_with one_row; indexes = xs; preferences = no_preferences; thesauri = no_thesauri })) indexes_synced
 
 pub it_is_led_to : after_all empty_state shown_statements ≡ shown_state
 it_is_led_to =

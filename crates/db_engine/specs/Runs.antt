@@ -8,9 +8,12 @@ use Rattle.st_parse.specs.Grammar.{Read, NoStatement, Found}
 use Rattle.st_parse.specs.Grammar.{Blank}
 use Rattle.ct_keep.specs.Content.{Content, weight}
 use Rattle.ct_keep.specs.KeeperViews.{KeepsLimit, PassesLimit}
+use Rattle.ct_entry.specs.Keys.{at}
 use Rattle.db_state.specs.States.{StoreState, StandsForState, empty_state}
 use Rattle.db_state.specs.laws.Empty.{empty_stands}
 use Rattle.db_state.specs.Effects.{Effect, state_by, reply_by, is_done}
+use Rattle.db_state.specs.Entries.{Makes}
+use Rattle.db_state.specs.laws.SamePostings.{same_here}
 use Rattle.db_state.specs.Room.{room}
 use Rattle.db_engine.specs.Steps.{statement_step, rest_step, is_utf8_text, read_bytes, may_fill}
 use Rattle.std.specs.Str.{chars, is_utf8}
@@ -97,19 +100,20 @@ AllAllowed limit store m (t ∷ ts) = IsAllowed limit store m t.piece t.answer �
 
 -- ---- how the limit binds
 
--- The step would lead from the content c to one that stands for the state m, and there is no room to go to that.
-pub record WouldPassLimit (store : ℕ) (m : StoreState) (c : Content) : Type 0 where
+-- In the state m this effect would lead from the content c to one that there is no room to go to.
+pub record WouldPassLimit (store : ℕ) (m : StoreState) (effect : Effect) (c : Content) : Type 0 where
   pub next : Content
-  pub stands : StandsForState next m
+  pub stands : StandsForState next (state_by m effect)
+  pub makes : Makes effect c next
   pub passes : PassesLimit store c next
 
 -- A piece with this effect in the state m was answered so over the content c, which then was `next`, and the limit bound: by its step
--- it leads to a content that is within the limit or no heavier, and nothing else changes the content; that the store is full is
--- answered only where its step would lead to one that is over the limit and heavier.
+-- it leads to a content that is within the limit or no heavier, with the rows of postings that the effect makes, and nothing else changes the content;
+-- that the store is full is answered only where its step would lead to one that is over the limit and heavier.
 abbrev pub ObeysLimit : ℕ → StoreState → Effect → Answer → Content → Content → Type 0
-ObeysLimit store m effect Step c next = StandsForState next (state_by m effect) × KeepsLimit store c next
+ObeysLimit store m effect Step c next = StandsForState next (state_by m effect) × KeepsLimit store c next × Makes effect c next
 ObeysLimit store m effect NoMemory c next = next ≡ c
-ObeysLimit store m effect Full c next = (next ≡ c) × WouldPassLimit store (state_by m effect) c
+ObeysLimit store m effect Full c next = (next ≡ c) × WouldPassLimit store m effect c
 
 -- Each of these turns obeys the limit. They lead from the content c, which stands for the state m, to `last`.
 abbrev pub AllObeyLimit : ℕ → ℕ → StoreState → List Turn → Content → Content → Type 0
@@ -180,7 +184,7 @@ state_stays m text = refl
 -- a step that changes nothing obeys each limit; and one to a heavier content that is over the limit doesn't
 nothing_obeys : (store : ℕ) → AllObeyLimit 65536 store empty_state (turn_by (statement (codes "COMMIT")) Step ∷ []) empty empty
 unfolding chars is_utf8 encode
-nothing_obeys store = (empty, (empty_stands, inr (omega arith)), refl)
+nothing_obeys store = (empty, (empty_stands, inr (omega arith), same_here empty_state (at empty)), refl)
 
 too_heavy : (m : StoreState) (effect : Effect) (c next : Content) → weight c ≡ 64 → weight next ≡ 128 → ObeysLimit 100 m effect Step c next → ⊥
 too_heavy m effect c next light heavy obeys = ⊎_elim (λ within. omega (arith, heavy, within)) (λ lighter. omega (arith, light, heavy, lighter)) obeys.1

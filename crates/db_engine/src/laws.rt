@@ -4,6 +4,7 @@ ghost use Rattle.std.specs.Prelude.{◌≡◌};
 ghost use Rattle.ct_keep.specs.Content.{weight};
 ghost use Rattle.db_state.specs.Room.{room};
 ghost use Rattle.db_state.specs.States.{StandsForState, empty_state};
+ghost use Rattle.db_engine.specs.Alike.{OptimisingChangesNoReply};
 ghost use Rattle.db_engine.specs.Runs.{RunsKeepLimit};
 ghost use Rattle.db_engine.specs.ShownStore.{after_all, shown_state, shown_statements, shown_store};
 
@@ -19,4 +20,9 @@ pub fn shown_store_stands()
 /// After statements that were answered within a limit on the content, it is within the limit, or no heavier than before them.
 pub fn runs_keep_limit()
     ensures { RunsKeepLimit }
+{}
+
+/// Optimising changes no later reply: what is said beside the replies to optimisations is what is said where nothing is optimised.
+pub fn optimising_changes_no_reply()
+    ensures { OptimisingChangesNoReply }
 {}

@@ -4,3 +4,4 @@ pub mod Looking
 pub mod Matching
 pub mod Seeking
 pub mod Thesauri
+pub mod Alike

@@ -1,5 +1,6 @@
 -- How much CTX_QUERY.RESULT_SET looks up, and how much it may.
 use Rattle.std.specs.Prelude.{ℕ, ◌*◌, ◌≡◌, List, [], ◌∷◌, length, Option, Some, None, codes, refl}
+use Rattle.std.specs.Bool.{if◌then◌else◌}
 use Rattle.std.specs.FinMap.{get}
 use Rattle.ct_keep.specs.Content.{Content}
 use Rattle.ct_keep.specs.KeeperViews.{Counts, KeeperView}
@@ -13,7 +14,7 @@ use Rattle.ix_indexes.specs.Indexes.{Index, as_index}
 use Rattle.db_call.specs.Arguments.{argument_name}
 use Rattle.db_looks.specs.Allowances.{Allowance, CountsWithin}
 use Rattle.db_state.specs.States.{StoreState, OverStates}
-use Rattle.db_state.specs.Effects.{Effect, Does, Refused}
+use Rattle.db_state.specs.Effects.{Effect, is_done}
 use Rattle.db_find.specs.Looking.{four_rows_of_fox, search_allowance, search_looks}
 use Rattle.db_hits.specs.Calling.{hits, parts_in, query_in, result_set, search_for, table_of}
 use Rattle.db_hits.specs.Descriptors.{named_texts}
@@ -35,8 +36,7 @@ found_looks c m i x query parts = record (search_looks c m.tables m.thesauri i x
 
 -- where it is refused, nothing
 abbrev pub looks_by : Effect → Counts → Counts
-looks_by (Refused refusal) most = no_looks
-looks_by (Does m reply) most = most
+looks_by effect most = if is_done effect then most else no_looks
 
 abbrev pub index_looks : Content → StoreState → List ℕ → Option Index → List Arg → Counts
 index_looks c m i None args = no_looks
@@ -77,8 +77,7 @@ named_allowance c m args None = refused_allowance
 named_allowance c m args (Some i) = index_allowance c m i (get m.indexes i) args
 
 abbrev pub allowance_by : Effect → Allowance → Allowance
-allowance_by (Refused refusal) most = refused_allowance
-allowance_by (Does m reply) most = most
+allowance_by effect most = if is_done effect then most else refused_allowance
 
 -- WHAT RESULT_SET MAY LOOK UP of a content that stands for a state
 abbrev pub result_allowance : Content → StoreState → List Arg → Allowance

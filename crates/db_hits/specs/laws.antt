@@ -1,2 +1,3 @@
 pub mod Allowing
 pub mod Keeping
+pub mod Alike

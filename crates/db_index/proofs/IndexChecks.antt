@@ -35,19 +35,19 @@ use Rattle.db_cond.specs.declared.faults.Fault.{Fault}
 use Rattle.db_cond.specs.Faults.{UnknownName, ExistsAlready, WrongValues, BadValue, OutOfRange, LimitReached}
 use Rattle.db_cond.specs.Refused.{refusal_of}
 use Rattle.db_state.specs.States.{StoreState, indexes_on, index_limit}
-use Rattle.db_state.specs.Effects.{Effect, Refused, Does, Checks, refuse, refuse_by, with_found}
+use Rattle.db_state.specs.Effects.{Effect, Refused, Checks, refuse, refuse_by, with_found}
 use Rattle.db_state.specs.declared.plans.Plan.{Plan}
 use Rattle.db_state.specs.Plans.{IsPlan}
 use Rattle.db_state.specs.Columns.{column_place, place_from}
 use Rattle.db_state.specs.Lookups.{is_on_column, index_among, FoundOn}
-use Rattle.db_state.specs.laws.Chains.{checked, passed, refused}
+use Rattle.db_state.specs.laws.Chains.{checked, passed_to, refused}
 use Rattle.db_state.specs.laws.EachValue.{entries-each_value, count_alike}
 use Rattle.db_state.specs.laws.Heads.{store_head, store_heads}
 use Rattle.db_index.specs.declared.kinds.BuiltKind.{BuiltKind}
 use Rattle.db_index.specs.declared.kinds.BuiltKind.TheVariants.{Context, Catalogue, Rules}
 use Rattle.db_index.specs.declared.asking.Wanted.{Wanted}
 use Rattle.db_index.specs.Asking.{AsksForIndex, SectionsFit, are_sub_columns, fitting, requests_in, first_unknown_name, wanted_in}
-use Rattle.db_index.specs.Indexing.{IsFreeIndex, all_rows, asked_for, check_flags, check_index, columns_or_none, create_index, create_index_by, create_index_on, has_index_on, has_too_many_rows, index_created, is_degree, is_index_taken, passes_limit, target, with_new_index}
+use Rattle.db_index.specs.Indexing.{IsFreeIndex, all_rows, asked_for, check_flags, check_index, columns_or_none, create_index, create_index_by, create_index_on, has_index_on, has_too_many_rows, index_made_by, is_degree, is_index_taken, passes_limit, target}
 use Rattle.db_index.specs.laws.Counting.{counted, count-cons, count_insert}
 use Rattle.db_index.specs.laws.AllRows.{every_row}
 
@@ -142,7 +142,7 @@ module _ (m : StoreState) (i t : List ℕ) (kind : BuiltKind) (parallel : Option
     (ranged_is : ranged ≡ is_degree parallel) (many_is : many ≡ nat_le index_limit (length (indexes_on m.indexes t)))
     (checks : (done : Effect) → Checks found (check_flags taken texts formed ranged many i done) done) where
   abbrev made_of : Wanted → Effect
-  made_of w = Does (with_new_index m i t kind place w) index_created
+  made_of w = index_made_by m i t kind place w
 
   abbrev made : Effect
   made = done_by (fitting x.columns wanted) made_of
@@ -161,15 +161,15 @@ module _ (m : StoreState) (i t : List ℕ) (kind : BuiltKind) (parallel : Option
 
   -- where something is wanted, no check holds, and the index is made
   pub faultless : (w : Wanted) → found ≡ None → wanted ≡ Some w → formed ≡ true → SectionsFit kind w
-      → IsFreeIndex m i t kind x place w × (create_index_on m i t kind parallel x place wanted ≡ Does (with_new_index m i t kind place w) index_created)
+      → IsFreeIndex m i t kind x place w × (create_index_on m i t kind parallel x place wanted ≡ index_made_by m i t kind place w)
   faultless w none is good sections =
       let fits = fitting_is x.columns wanted w is (sym formed_is ∙ good) in
       let effect = as_checked ∙ checked found (check_flags taken texts formed ranged many i made) made none (checks made) ∙ ap (λ (o : Option Wanted). done_by o made_of) fits.0 in
-      let p = passed _ _ _ (with_new_index m i t kind place w) index_created
+      let p = passed_to _ _ _ (made_of w) refl
       (ap (λ (o : Option Wanted). check_index (is_index_taken kind m i t place) (is_text_at x.columns place) o (is_degree parallel) (passes_limit m t kind) i made_of) (sym fits.0) ∙ effect) in
-      let q = passed _ _ _ (with_new_index m i t kind place w) index_created p.1 in
-      let s = passed _ _ _ (with_new_index m i t kind place w) index_created q.1 in
-      let r = passed _ _ _ (with_new_index m i t kind place w) index_created s.1 in
+      let q = passed_to _ _ _ (made_of w) refl p.1 in
+      let s = passed_to _ _ _ (made_of w) refl q.1 in
+      let r = passed_to _ _ _ (made_of w) refl s.1 in
       (record { there = there; free = p.0; texts = not_true (is_text_at x.columns place) q.0; subs = fits.1; few = r.0; sections = sections }, effect)
     where
       not_true : (b : Bool) → not b ≡ false → b ≡ true

@@ -7,10 +7,9 @@ use Rattle.ix_context.specs.Levels.{Level}
 use Rattle.ix_indexes.specs.Indexes.{Index, kinds}
 use Rattle.db_cond.specs.Faults.{OutOfRange, UnknownName}
 use Rattle.db_state.specs.States.{StoreState}
-use Rattle.db_state.specs.Effects.{Does, Refused, with_found}
-use Rattle.db_state.specs.Lines.{call_done}
+use Rattle.db_state.specs.Effects.{Refused, with_found}
 use Rattle.db_index.proofs.IndexCallSteps.{IsCalled}
-use Rattle.db_index.specs.Optimizing.{is_no_context, optimize_named, with_optimised}
+use Rattle.db_index.specs.Optimizing.{is_no_context, optimised, optimize_named}
 
 context_kind : (k : IndexKind) → is_no_context (Some k) ≡ false → k ≡ Context
 context_kind Context h = refl
@@ -26,7 +25,7 @@ module _ (m : StoreState) (i : List ℕ) (name : Option (List ℕ)) (is : name �
   pub optimize_none : (level : Option Level) → level ≡ None → optimize_named m name level ≡ Refused OutOfRange
   optimize_none level none = ap (λ (n : Option (List ℕ)). optimize_named m n level) is ∙ ap (optimize_named m (Some i)) none
 
-  pub optimize_of : (x : Index) (level : Option Level) (l : Level) → level ≡ Some l → get m.indexes i ≡ Some x → optimize_named m name level ≡ Does (with_optimised m l i) call_done
+  pub optimize_of : (x : Index) (level : Option Level) (l : Level) → level ≡ Some l → get m.indexes i ≡ Some x → optimize_named m name level ≡ optimised m l i
   optimize_of x level l asked there =
       ap (λ (n : Option (List ℕ)). optimize_named m n level) is ∙ ap (optimize_named m (Some i)) asked
-      ∙ ap (λ (o : Option Index). with_found o (UnknownName i) (λ (y : Index). Does (with_optimised m l i) call_done)) there
+      ∙ ap (λ (o : Option Index). with_found o (UnknownName i) (λ (y : Index). optimised m l i)) there

@@ -15,7 +15,8 @@ use Rattle.ix_context.specs.Indexes.{ContextIndex}
 use Rattle.ix_context.specs.Levels.{Level}
 use Rattle.ix_context.specs.Shapes.{HasContextValue}
 use Rattle.ix_context.specs.laws.ContextRows.{has_entry}
-use Rattle.ix_optimize.specs.Optimising.{IsOptimised, resumed}
+use Rattle.ix_repack.specs.Repacking.{IndexRows}
+use Rattle.ix_optimize.specs.Optimising.{IsOptimised, optimise_changes, resumed}
 use Rattle.ix_optimize.specs.declared.levels.Progress.{Progress}
 use Rattle.ix_optimize.specs.laws.Optimised.{index_optimised, optimised_is, optimised_of, optimised_on, optimised_stands}
 use Rattle.ix_optimize.specs.laws.Parts.{rows_of}
@@ -51,3 +52,11 @@ module _ (c : Content) (m : StoreState) (level : Level) (i : List ℕ) (y : Inde
       (state_optimised c m level i y stands there (optimised_is level t y told.rules) Defined put
       (optimised_on Defined c i y t stands.only told.rules.numbers level place told.stands) (optimised_of Defined c i y t stands.only told.rules.numbers level place told.stands) shaped
       (optimised_stands Defined c i y t stands.only told.rules.numbers level place stand (resumed_read told.entry.resumes)))
+
+-- and it is all that an optimisation puts
+pub optimised_whole : (c : Content) (i : List ℕ) (level : Level) (place : Place) (rows : IndexRows) (y : IndexOf ContextIndex) (progress : Progress) (none new : List (List ℕ × Option (List ℕ))) → none ≡ []
+    → IsOptimised c i level place rows (target_of y) y.prefs (y.body.part.given + 1) y.body.part.tidiness none new progress
+    → after new c ≡ after (spell (optimise_changes c i level place rows (target_of y) y.prefs (y.body.part.given + 1) y.body.part.tidiness)) c
+optimised_whole c i level place rows y progress none new empty is =
+    ap (λ (b : List (List ℕ × Option (List ℕ))). after b c) is.changes
+    ∙ ap (λ (b : List (List ℕ × Option (List ℕ))). after (b ++ spell (optimise_changes c i level place rows (target_of y) y.prefs (y.body.part.given + 1) y.body.part.tidiness)) c) empty

@@ -10,8 +10,8 @@ use Rattle.st_parse.specs.declared.statements.Arg.{Arg}
 use Rattle.db_call.specs.Arguments.{argument_name}
 use Rattle.db_cond.specs.Faults.{UnknownName, WrongValues, ValueTooLong, BadValue}
 use Rattle.db_state.specs.States.{StoreState}
-use Rattle.db_state.specs.Effects.{Effect, Refused, Does, refuse_by, state_by}
-use Rattle.db_state.specs.laws.Unchanged.{kept_by, kept_found, kept_unless}
+use Rattle.db_state.specs.Effects.{Effect, Refused, Does, OnlyLooks, refuse_by}
+use Rattle.db_state.specs.laws.OnlyLooking.{only_looks_by, only_looks_found, only_looks_unless}
 use Rattle.db_index.specs.Tokenizing.{lexer_name, policy_tokens, reads_no_preference, settings_asked, text_asked, token_lines, tokens_asked, unknown_lexer}
 
 -- ---- the preference
@@ -41,11 +41,11 @@ module _ (m : StoreState) (args : List Arg) (more : reads_no_preference args ≡
   pub lexer_known : (name : List ℕ) (settings : List Setting) → Some name ≡ argument_name 0 args → Some settings ≡ get m.preferences.lexers name → policy_tokens m args ≡ tokens_asked m (Some settings) args
   lexer_known name settings is some = named (Some name) is ∙ ap (by_settings name) (sym some)
 
--- ---- the state stays
+-- ---- it only looks
 
-pub tokens_keep : (m : StoreState) (args : List Arg) → state_by m (policy_tokens m args) ≡ m
-tokens_keep m args =
-    kept_unless m (unknown_lexer m.preferences (lexer_name args)) UnknownName _
-    (kept_found m (text_asked args) WrongValues _ (λ text.
-    kept_by m (nat_lt text_limit (length text)) ValueTooLong _
-    (kept_found m (settings_asked m.preferences args) BadValue (λ settings. Does m (token_lines settings text)) (λ settings. refl))))
+pub tokens_only_look : (m : StoreState) (args : List Arg) → OnlyLooks m (policy_tokens m args)
+tokens_only_look m args =
+    only_looks_unless m (unknown_lexer m.preferences (lexer_name args)) UnknownName _
+    (only_looks_found m (text_asked args) WrongValues _ (λ text.
+    only_looks_by m (nat_lt text_limit (length text)) ValueTooLong _
+    (only_looks_found m (settings_asked m.preferences args) BadValue (λ settings. Does m (token_lines settings text)) (λ settings. refl))))

@@ -1,8 +1,9 @@
 -- What CREATE INDEX does.
 use Rattle.std.specs.Prelude.{ℕ, pos, negsuc, ◌-◌, ◌^◌, ◌≡◌, nat_le, Bool, true, false, not, ◌||◌, ◌&&◌, is_some, ◌<◌, List, [], ◌∷◌, length, Option, Some, None, Result, Vec, IfOk, IfSome, MatchOption, codes, refl}
 use Rattle.std.specs.declared.alloc.Global.{Global}
+use Rattle.std.specs.Bool.{if◌then◌else◌}
 use Rattle.std.specs.List.{list_any}
-use Rattle.std.specs.Option.{option_map}
+use Rattle.std.specs.Option.{option_map, unwrap_or}
 use Rattle.std.specs.FinMap.{get, entries}
 use Rattle.std.proofs.Common.{inl, inr, ap}
 use Rattle.ct_entry.specs.Maps.{Names}
@@ -24,7 +25,7 @@ use Rattle.ix_indexes.specs.Indexes.{Index, AskedFor, kinds}
 use Rattle.db_state.specs.Lookups.{is_on_column}
 use Rattle.db_cond.specs.Faults.{UnknownName, ExistsAlready, WrongValues, BadValue, OutOfRange, LimitReached}
 use Rattle.db_state.specs.States.{StoreState, indexes_on, index_limit, named_thesauri}
-use Rattle.db_state.specs.Effects.{Effect, Does, refuse, refuse_by, whole_count, with_found, Refused}
+use Rattle.db_state.specs.Effects.{Effect, Works, Creates, refuse, refuse_by, whole_count, with_found, Refused}
 use Rattle.db_state.specs.Columns.{column_place}
 use Rattle.ct_keep.specs.declared.keepers.KeepFault.{KeepFault}
 use Rattle.ct_keep.specs.Content.{Content}
@@ -66,6 +67,11 @@ abbrev pub is_degree : Option Whole → Bool
 is_degree None = true
 is_degree (Some n) = is_thread_count (whole_count n)
 
+-- how many threads may read the texts: as many as PARALLEL gives, or `degree` where it gives no number from 1 to 16
+abbrev pub threads_taken : Option Whole → ℕ → ℕ
+threads_taken None degree = degree
+threads_taken (Some n) degree = if is_thread_count (whole_count n) then unwrap_or (whole_count n) degree else degree
+
 -- The checks in their order: whether there is an index of the name or on the column, whether that is a column of texts, whether PARAMETERS is of its form and its sub-indexes
 -- have columns that they may have, whether PARALLEL is in its range, and whether a limit would be passed.
 abbrev pub check_index : Bool → Bool → Option Wanted → Bool → (Wanted → Bool) → List ℕ → (Wanted → Effect) → Effect
@@ -100,10 +106,14 @@ passes_limit m t kind w = nat_le index_limit (length (indexes_on m.indexes t)) |
 abbrev pub is_index_taken : BuiltKind → StoreState → List ℕ → List ℕ → ℕ → Bool
 is_index_taken kind m i t place = is_some (get m.indexes i) || has_index_on (index_kind kind) m.indexes t place
 
+-- the index is made
+abbrev pub index_made_by : StoreState → List ℕ → List ℕ → BuiltKind → ℕ → Wanted → Effect
+index_made_by m i t kind place w = Works (with_new_index m i t kind place w) index_created (Creates m (asked_for kind w) i (target t place) w.prefs)
+
 abbrev pub create_index_on : StoreState → List ℕ → List ℕ → BuiltKind → Option Whole → Table → ℕ → Option Wanted → Effect
 create_index_on m i t kind parallel x place found =
     check_index (is_index_taken kind m i t place) (is_text_at x.columns place) (fitting x.columns found) (is_degree parallel) (passes_limit m t kind) i
-    (λ w. Does (with_new_index m i t kind place w) index_created)
+    (λ w. index_made_by m i t kind place w)
 
 -- no check holds
 pub record IsFreeIndex (m : StoreState) (i t : List ℕ) (kind : BuiltKind) (x : Table) (place : ℕ) (w : Wanted) : Type 0 where
@@ -141,7 +151,7 @@ MakesIndex m i t kind place w batch = MakesOver m (asked_for kind w) i (target t
 -- what the statement comes to where no check holds
 abbrev pub PlansFreeIndex : StoreState → Content → List ℕ → List ℕ → BuiltKind → ℕ → Wanted → Result Plan KeepFault → Type 0
 PlansFreeIndex m c i t kind place w result =
-    (x : Table) → place < 256 → IsFreeIndex m i t kind x place w → IfOk result (IsPlan (Does (with_new_index m i t kind place w) index_created) index_created c)
+    (x : Table) → place < 256 → IsFreeIndex m i t kind x place w → IfOk result (IsPlan (index_made_by m i t kind place w) index_created c)
 
 -- what it comes to on a column, by its place, of a table with these columns
 abbrev pub PlansIndex : StoreState → Content → Table → List ℕ → List ℕ → BuiltKind → Option Whole → List Column → ℕ → Option Wanted → Result Plan KeepFault → Type 0
@@ -197,6 +207,9 @@ seventeen_threads done = refl
 
 sixteen_threads : (is_degree (Some (Fits (pos 16))) ≡ true) × (is_degree (Some (Fits (pos 0))) ≡ false) × (is_degree (Some Beyond) ≡ false)
 sixteen_threads = (refl, refl, refl)
+
+by_the_statement : (threads_taken (Some (Fits (pos 16))) 1 ≡ 16) × (threads_taken None 4 ≡ 4) × (threads_taken (Some (Fits (pos 17))) 4 ≡ 4)
+by_the_statement = (refl, refl, refl)
 
 -- a catalogue and a rule index may have any number of rows
 no_row_too_many : (m : StoreState) (t : List ℕ) (w : Wanted) → has_too_many_rows m t Catalogue w ≡ false

@@ -22,7 +22,8 @@ use Rattle.db_names.specs.declared.heads.IndexKind.TheVariants.{Context, Catalog
 use Rattle.db_call.specs.Arguments.{argument_name, argument_text, spells_word}
 use Rattle.db_cond.specs.Faults.{UnknownName, NoIndexOfKind, WrongValues, BadValue, OutOfRange}
 use Rattle.db_state.specs.States.{StandsForState, StoreState}
-use Rattle.db_state.specs.Effects.{Effect, Refused, Does, whole_count, with_found}
+use Rattle.db_state.specs.Effects.{Effect, Refused, Works, Optimises, whole_count, with_found}
+use Rattle.db_state.specs.Entries.{Achieves}
 use Rattle.db_state.specs.Lines.{call_done}
 use Rattle.db_index.specs.IndexCalls.{index_call, kind_named}
 
@@ -80,10 +81,14 @@ with_optimised m level i = record m { indexes = alter m.indexes i (index_optimis
 
 -- ---- the statement
 
+-- the index is optimised
+abbrev pub optimised : StoreState → Level → List ℕ → Effect
+optimised m level i = Works (with_optimised m level i) call_done (Optimises m level i)
+
 -- What the checks let pass has the name of an index, or is spelt as no name, which is a bad value. So the UnknownName here is never reached.
 abbrev pub optimize_named : StoreState → Option (List ℕ) → Option Level → Effect
 optimize_named m None level = Refused BadValue
-optimize_named m (Some i) level = with_found level OutOfRange (λ (l : Level). with_found (get m.indexes i) (UnknownName i) (λ (x : Index). Does (with_optimised m l i) call_done))
+optimize_named m (Some i) level = with_found level OutOfRange (λ (l : Level). with_found (get m.indexes i) (UnknownName i) (λ (x : Index). optimised m l i))
 
 -- by the kind of the index that the first argument names
 abbrev pub optimize_as_kind : Option IndexKind → StoreState → Option (List ℕ) → List Arg → Effect
@@ -94,11 +99,11 @@ optimize_index m args = optimize_as_kind (kind_named m (argument_name 0 args)) m
 
 -- ---- what its functions give
 
--- The batch makes of the content one that stands for the state with this index optimised, where it is a CONTEXT index.
+-- The batch makes of the content what the optimisation leads to, where the index is a CONTEXT index.
 abbrev pub LeadsToOptimised : {K : Type 0} → (K → KeeperView) → K → Level → List ℕ → Result (List Change) KeepFault → Type 0
 LeadsToOptimised view old level i result =
     (m : StoreState) (c : Content) (x : Index) → (view old).content ≡ Some c → StandsForState c m → get m.indexes i ≡ Some x → kinds.kind x.body ≡ Context
-    → IfOk result (λ batch. StandsForState (after batch c) (with_optimised m level i))
+    → IfOk result (λ batch. Achieves (optimised m level i) call_done c (after batch c))
 
 -- computed examples
 abbrev di_with : List Arg → List Arg

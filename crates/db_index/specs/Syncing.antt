@@ -9,11 +9,9 @@ use Rattle.db_call.specs.Arguments.{are_texts, argument_name}
 use Rattle.ct_keep.specs.Content.{Change, Content}
 use Rattle.ct_keep.specs.KeeperViews.{KeeperView}
 use Rattle.ct_keep.specs.declared.keepers.KeepFault.{KeepFault}
-use Rattle.ct_entry.specs.Keys.{Key, at}
 use Rattle.ct_entry.specs.Changes.{spell}
 use Rattle.tb_table.specs.Tables.{Table}
-use Rattle.ix_kinds.specs.Rows.{table_at}
-use Rattle.ix_kinds.specs.Statements.{indexes_after_sync, place_of}
+use Rattle.ix_kinds.specs.Statements.{indexes_after_sync}
 use Rattle.rule_index.specs.RuleIndexes.{RuleIndex, all_settled, row_outcome}
 use Rattle.ix_indexes.specs.Indexes.{Index, as_rules, kinds}
 use Rattle.db_names.specs.declared.heads.IndexKind.{IndexKind}
@@ -21,7 +19,8 @@ use Rattle.db_names.specs.declared.heads.IndexKind.TheVariants.{Context, Catalog
 use Rattle.db_cond.specs.Faults.{UnknownName, NoIndexOfKind, WrongValues, BadValue, LimitReached}
 use Rattle.db_index.specs.IndexCalls.{index_call, kind_named}
 use Rattle.db_state.specs.States.{StandsForState, StoreState, named_thesauri}
-use Rattle.db_state.specs.Effects.{Effect, Refused, Does, refuse, with_found}
+use Rattle.db_state.specs.Effects.{Effect, Refused, Works, Syncs, refuse, with_found}
+use Rattle.db_state.specs.Entries.{its_sync_changes}
 use Rattle.st_parse.specs.declared.statements.Whole.TheVariants.{Fits}
 use Rattle.db_state.specs.Lines.{call_done}
 
@@ -71,7 +70,7 @@ abbrev pub with_synced : StoreState → List ℕ → StoreState
 with_synced m i = record m { indexes = indexes_after_sync kinds (named_thesauri m) m.tables i m.indexes }
 
 abbrev pub sync_found : StoreState → List ℕ → Index → Effect
-sync_found m i x = refuse (has_too_many x) LimitReached (Does (with_synced m i) call_done)
+sync_found m i x = refuse (has_too_many x) LimitReached (Works (with_synced m i) call_done (Syncs m i))
 
 -- What the checks let pass has the name of an index, or is spelt as no name, which is a bad value. So the UnknownName here is never reached.
 abbrev pub sync_named : StoreState → Option (List ℕ) → Effect
@@ -86,10 +85,6 @@ abbrev pub sync_index : StoreState → List Arg → Effect
 sync_index m args = sync_as_kind (kind_named m (argument_name 0 args)) m (argument_name 0 args) args
 
 -- ---- what its functions give
-
--- what is put: the entry of the index ends in the same place as before
-abbrev pub its_sync_changes : StoreState → Content → List ℕ → Index → List (Key × Option (List ℕ))
-its_sync_changes m c i x = kinds.sync_changes (named_thesauri m) (table_at m.tables x.table) i x (place_of kinds (at c) i x)
 
 -- the changes of the synchronisation; none where the index would need more documents than there are numbers
 abbrev pub MakesSync : List ℕ → StoreState → Content → Index → Option (List Change) → Type 0

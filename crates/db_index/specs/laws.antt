@@ -7,3 +7,5 @@ pub mod NewMarks
 pub mod Dropped
 pub mod ShapedChanges
 pub mod Optimized
+pub mod OptimizedContents
+pub mod Alike

@@ -3,7 +3,7 @@
 ghost use Rattle.std.specs.Prelude.{◌≡◌, None, true};
 ghost use Rattle.ix_kinds.specs.Targets.{is_text_at as text_at, is_text_sort as sort_of_texts};
 ghost use Rattle.db_state.specs.Effects.{Effect, Checks};
-ghost use Rattle.db_index.specs.Indexing.{check_flags, is_degree as degree_is};
+ghost use Rattle.db_index.specs.Indexing.{check_flags, threads_taken, is_degree as degree_is};
 
 use ct_base::Name;
 use db_cond::Fault;
@@ -80,7 +80,9 @@ pub(crate) fn is_degree(parallel: &Option<Whole>) -> bool
 }
 
 /// How many threads PARALLEL gives, or so many where it isn't there.
-pub(crate) fn degree_by(parallel: &Option<Whole>, degree: u32) -> u32 {
+pub(crate) fn degree_by(parallel: &Option<Whole>, degree: u32) -> u32
+    ensures { result ≡ threads_taken parallel.now degree }
+{
     match parallel {
         Some(Whole::Fits(threads)) if 1 <= *threads && *threads <= DEGREE_LIMIT => *threads as u32,
         _ => degree,

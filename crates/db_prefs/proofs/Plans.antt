@@ -39,7 +39,7 @@ use Rattle.db_state.specs.laws.Serving.{plan_of}
 use Rattle.db_prefs.specs.Defining.{attribute_set, has_stopword_length, is_full_group, is_good_section, new_changes, new_made, section_added, special_added, stopword_added, sub_index_added, with_section, with_special}
 use Rattle.db_prefs.specs.declared.special_sections.Special.{Special}
 use Rattle.db_prefs.specs.declared.special_sections.Special.TheVariants.{Sentence, Paragraph}
-use Rattle.db_prefs.proofs.NewPreferences.{lexer_again, stoplist_again, group_again, set_again, new_stands}
+use Rattle.db_prefs.proofs.NewPreferences.{lexer_again, stoplist_again, group_again, set_again, new_becomes}
 
 -- changes of preferences are ones that a store takes
 pub of_preferences : (changes : List (List ℕ × Option (List ℕ))) → AreShaped HasPrefValue changes → AreStoreChanges changes
@@ -80,7 +80,7 @@ module _ (c : Content) (m : StoreState) (name : List ℕ) (batch : List (List �
   pub new_planned : (k : PrefKind) (is_null : Bool) → IsName name → is_kind_full k m.preferences ≡ false → batch ≡ spell (new_changes k name is_null)
       → IsPlan (new_made k is_null m name) call_done c (Done batch)
   new_planned k is_null is_name room is =
-      plan_of (new_made k is_null m name) c _ (new_changes k name is_null) batch (passes (is_kind_full k m.preferences) LimitReached _ room) is (new_stands c m name stands k is_null is_name room)
+      plan_of (new_made k is_null m name) c _ (new_changes k name is_null) batch (passes (is_kind_full k m.preferences) LimitReached _ room) is (new_becomes c m name stands k is_null is_name room)
 
   -- an attribute
   pub attribute_planned : (s : Setting) (old : List Setting) → get m.preferences.lexers name ≡ Some old

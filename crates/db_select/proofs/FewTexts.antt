@@ -1,11 +1,12 @@
 -- A CATSEARCH reads no more texts than rows have a word of its query, times one more than the columns of texts that are named.
-use Rattle.std.proofs.Common.{ℕ, ◌≡◌, ◌≤◌, ◌+◌, ◌*◌, List, length, Option, Some, sym, subst, arith}
+use Rattle.std.proofs.Common.{ℕ, ◌≡◌, ◌≤◌, ◌+◌, ◌*◌, Bool, true, false, List, length, Option, Some, sym, subst, arith}
+use Rattle.std.specs.Bool.{if◌then◌else◌}
 use Rattle.std.proofs.Math.Nat.{mul-le-mul_right}
 use Rattle.ct_keep.specs.Content.{Content}
 use Rattle.st_parse.specs.declared.statements.Cond.{Cond}
 use Rattle.tb_table.specs.Tables.{Table}
 use Rattle.ix_indexes.specs.Indexes.{Index, as_catalogue}
-use Rattle.db_state.specs.Effects.{Effect, Does, Refused}
+use Rattle.db_state.specs.Effects.{is_done}
 use Rattle.db_state.specs.States.{StoreState}
 use Rattle.db_find.specs.WordRows.{CataloguesFindWordRows, slot_rows_of}
 use Rattle.db_find.specs.Finding.{found_in}
@@ -14,7 +15,7 @@ use Rattle.db_find.specs.Searches.{Search, Catsearch}
 use Rattle.db_find.specs.Seeking.{named_index}
 use Rattle.db_find.specs.laws.Seeking.{named_needs}
 use Rattle.db_select.specs.Hits.{found_rows}
-use Rattle.db_select.specs.Looking.{allowance_by, row_texts, searching_allowance, select_texts}
+use Rattle.db_select.specs.Looking.{allowance_by, refused_allowance, row_texts, searching_allowance, select_texts, table_allowance}
 use Rattle.db_select.specs.Predicates.{conds_in}
 use Rattle.db_select.specs.Statements.{select_statement}
 use Rattle.db_select.specs.Choosing.{Selection}
@@ -36,11 +37,11 @@ catsearch_reads_few find_few c m t x i y want column query structured conds stan
     subst (λ (o : Option Index). length (found_in m.tables m.thesauri o s) ≤ most) (sym needs.1) few.rows in
     product (texts_in_index m.tables (named_index m t x.columns s) s) (length (found_rows m t x (Some s))) most (row_texts want s conds x.columns) texts rows
 
--- what a statement with such an effect may read is bounded by what it reads at most
-allowed : (effect : Effect) (c : Content) (m : StoreState) (want : Selection) (t : List ℕ) (x : Table) (conds : List Cond) (s : Search) (most n : ℕ)
-    → select_texts m t x want s conds ≤ most → (allowance_by c m want t conds s effect (Some x)).texts ≡ Some n → n ≤ most
-allowed (Refused refusal) c m want t x conds s most n within is = let none : 0 ≡ n = cc in omega (arith, none)
-allowed (Does next reply) c m want t x conds s most n within is = let texts : select_texts m t x want s conds ≡ n = cc in omega (arith, texts, within)
+-- what a statement may read, by whether it is refused, is bounded by what it reads at most
+allowed : (done : Bool) (c : Content) (m : StoreState) (want : Selection) (t : List ℕ) (x : Table) (conds : List Cond) (s : Search) (most n : ℕ)
+    → select_texts m t x want s conds ≤ most → (if done then table_allowance c m want t conds s (Some x) else refused_allowance s).texts ≡ Some n → n ≤ most
+allowed false c m want t x conds s most n within is = let none : 0 ≡ n = cc in omega (arith, none)
+allowed true c m want t x conds s most n within is = let texts : select_texts m t x want s conds ≡ n = cc in omega (arith, texts, within)
 
 pub catsearch_may_read_few : CataloguesFindWordRows → CatsearchMayReadFew
 catsearch_may_read_few find_few c m t x i y want column query structured preds n stands there search named is =
@@ -49,5 +50,5 @@ catsearch_may_read_few find_few c m t x i y want column query structured preds n
     let effect = select_statement m want t preds in
     let searching = subst (λ (o : Option Search). (searching_allowance effect c m want t preds o).texts ≡ Some n) search is in
     let found = subst (λ (o : Option Table). (allowance_by c m want t conds s effect o).texts ≡ Some n) there searching in
-    allowed effect c m want t x conds s (slot_rows_of m.tables y query * (1 + row_texts want s conds x.columns)) n
+    allowed (is_done effect) c m want t x conds s (slot_rows_of m.tables y query * (1 + row_texts want s conds x.columns)) n
     (catsearch_reads_few find_few c m t x i y want column query structured conds stands there named) found

@@ -1,6 +1,7 @@
 -- What a SELECT with a search looks up.
 use Rattle.std.proofs.Common.{◌≡◌, ◌≤◌, ◌+◌, ◌*◌, ℕ, Bool, true, false, List, [], ◌∷◌, length, Option, Some, None, refl, sym, ap, subst, ◌∙◌, add-zero, arith}
 use Rattle.std.specs.Prelude.{◌&&◌}
+use Rattle.std.specs.Bool.{if◌then◌else◌}
 use Rattle.std.specs.FinMap.{get}
 use Rattle.std.proofs.lemmas.List.{length-map}
 use Rattle.std.proofs.Math.Nat.{mul-le-mul_right}
@@ -19,7 +20,7 @@ use Rattle.ix_search.specs.Looking.{QueriesLookFew}
 use Rattle.ix_indexes.specs.Indexes.{Index}
 use Rattle.db_cond.specs.Faults.{Refusal}
 use Rattle.db_state.specs.States.{StoreState}
-use Rattle.db_state.specs.Effects.{Effect, Does, Refused, refuse_by}
+use Rattle.db_state.specs.Effects.{Effect, Does, is_done, refuse_by}
 use Rattle.db_rows.specs.Texts.{RisesLeaving, texts_alone}
 use Rattle.db_rows.specs.laws.Texts.{rises_end, rises_on}
 use Rattle.db_find.specs.Finding.{search_refusal}
@@ -72,16 +73,17 @@ module _ (c : Content) (m : StoreState) (t : List ℕ) (x : Table) (want : Selec
   most_by effect = looks_by effect (index_looks c) (found_looks c m t x want s conds)
 
   -- where it is left behind the search for the index
-  index_first : (effect : Effect) (a b : Counts) → RisesBy (scan_looks (code kind.Indexes ∷ []) c) a b → RisesLeaving (most_by effect) 0 a b
-  index_first (Refused refusal) a b rises =
+  index_first : (done : Bool) (a b : Counts) → RisesBy (scan_looks (code kind.Indexes ∷ []) c) a b
+      → RisesLeaving (if done then found_looks c m t x want s conds else index_looks c) 0 a b
+  index_first false a b rises =
       let none = indexes_texts c in
       record { texts = omega (arith, none, rises.texts); rows = rises.rows; rules = rises.rules }
-  index_first (Does next reply) a b rises =
+  index_first true a b rises =
       let none = indexes_texts c in
       record { texts = omega (arith, none, rises.texts); rows = omega (arith, rises.rows); rules = omega (arith, rises.rules) }
 
   pub index_alone : (effect : Effect) (a b : Counts) → RisesBy (scan_looks (code kind.Indexes ∷ []) c) a b → RisesLeaving (leaving_rules s b (most_by effect)) 0 a b
-  index_alone effect a b rises = leaving_left s (most_by effect) 0 a b (index_first effect a b rises)
+  index_alone effect a b rises = leaving_left s (most_by effect) 0 a b (index_first (is_done effect) a b rises)
 
   module _ (looking : QueriesLookFew) (i : List ℕ) (y : Index) (named : named_index m t x.columns s ≡ Some (i, y)) where
     abbrev searched : Counts

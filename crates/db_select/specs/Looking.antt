@@ -1,5 +1,6 @@
 -- How much a SELECT with a search looks up, and how much it may.
 use Rattle.std.specs.Prelude.{ℕ, pos, ◌+◌, ◌*◌, ◌≡◌, ◌||◌, Bool, true, false, List, [], ◌∷◌, length, ◌≤◌, Option, Some, None, Result, Vec, codes, refl}
+use Rattle.std.specs.Bool.{if◌then◌else◌}
 use Rattle.std.specs.List.{list_any}
 use Rattle.std.specs.Option.{option_map}
 use Rattle.std.specs.FinMap.{get}
@@ -29,7 +30,7 @@ use Rattle.tb_table.specs.Tables.{Table, docs_columns}
 use Rattle.db_cond.specs.Faults.{WrongValues}
 use Rattle.db_looks.specs.Allowances.{Allowance, CountsWithin, unbounded}
 use Rattle.db_state.specs.States.{StoreState, OverNamedTable, OverStates}
-use Rattle.db_state.specs.Effects.{Effect, Does, Refused}
+use Rattle.db_state.specs.Effects.{Effect, Refused, is_done}
 use Rattle.db_rows.specs.Checking.{cond_columns}
 use Rattle.db_rows.specs.Sources.{of_columns}
 use Rattle.db_rows.specs.Texts.{RisesLeaving, is_named, left_by, passing_text_places, texts_alone}
@@ -111,8 +112,7 @@ table_looks c m t (Some x) want s conds = found_looks c m t x want s conds
 
 -- where it is refused, the search for the index alone
 abbrev pub looks_by : Effect → Counts → Counts → Counts
-looks_by (Refused refusal) least most = least
-looks_by (Does m reply) least most = most
+looks_by effect least most = if is_done effect then most else least
 
 -- WHAT A SELECT WITH A SEARCH LOOKS UP AT MOST, where this is what it does
 abbrev pub select_looks : Effect → Content → StoreState → Selection → List ℕ → List Pred → Search → Counts
@@ -170,11 +170,14 @@ found_allowance c m t x want s conds = record {
   rules = one_rule_more (rules_in_index (named_index m t x.columns s) s);
 }
 
--- by its effect, which tells whether it is refused, and by the table, if it is there
+-- by the table, if it is there
+abbrev pub table_allowance : Content → StoreState → Selection → List ℕ → List Cond → Search → Option Table → Allowance
+table_allowance c m want t conds s None = refused_allowance s
+table_allowance c m want t conds s (Some x) = found_allowance c m t x want s conds
+
+-- and by its effect, which tells whether it is refused
 abbrev pub allowance_by : Content → StoreState → Selection → List ℕ → List Cond → Search → Effect → Option Table → Allowance
-allowance_by c m want t conds s (Refused refusal) found = refused_allowance s
-allowance_by c m want t conds s (Does next reply) None = refused_allowance s
-allowance_by c m want t conds s (Does next reply) (Some x) = found_allowance c m t x want s conds
+allowance_by c m want t conds s effect found = if is_done effect then table_allowance c m want t conds s found else refused_allowance s
 
 -- of one without a search nothing is said
 abbrev pub searching_allowance : Effect → Content → StoreState → Selection → List ℕ → List Pred → Option Search → Allowance

@@ -1,5 +1,6 @@
 pub mod Lines
 pub mod Effects
+pub mod Entries
 pub mod Shapes
 pub mod Plans
 pub mod Lookups
@@ -7,4 +8,5 @@ pub mod Columns
 pub mod Room
 pub mod States
 pub mod Promises
+pub mod Alike
 pub mod laws

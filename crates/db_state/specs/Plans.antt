@@ -9,7 +9,8 @@ use Rattle.ct_keep.specs.KeeperViews.{AtMostOneCommit, KeeperView, SameButConten
 use Rattle.db_cond.specs.Faults.{Refusal, WrongValues, refusal_line}
 use Rattle.db_cond.specs.declared.faults.Fault.TheVariants.{WrongValues as WrongValuesFault}
 use Rattle.db_state.specs.States.{StoreState, StandsForState}
-use Rattle.db_state.specs.Effects.{Effect, Refused, Does, state_by, reply_by, is_done}
+use Rattle.db_state.specs.Effects.{Effect, Refused, state_by, reply_by, is_done}
+use Rattle.db_state.specs.Entries.{Achieves, Makes}
 use Rattle.db_state.specs.Shapes.{AreStoreChanges}
 use Rattle.db_state.specs.Lines.{call_done}
 use Rattle.db_state.specs.Room.{room}
@@ -26,10 +27,18 @@ StandsBy (Some Memory) m effect c next = next ≡ c
 StandsBy (Some NoRoom) m effect c next = StandsForState next (state_by m effect)
 StandsBy (Some Disk) m effect c next = StandsForState next m ⊎ StandsForState next (state_by m effect)
 
+-- What the fault leaves of the rows of postings, the numbers of documents, and the places.
+abbrev pub MakesBy : Option KeepFault → Effect → Content → Content → Type 0
+MakesBy None effect c next = Makes effect c next
+MakesBy (Some Memory) effect c next = Unit {0}
+MakesBy (Some NoRoom) effect c next = Makes effect c next
+MakesBy (Some Disk) effect c next = (next ≡ c) ⊎ Makes effect c next
+
 -- From a content that stands for the state m to the next one by at most one commit, which failed so if it did.
 pub record Moves (m : StoreState) (effect : Effect) (c : Content) (old new : KeeperView) (fault : Option KeepFault) : Type 0 where
   pub next : Content
   pub stands : StandsBy fault m effect c next
+  pub makes : MakesBy fault effect c next
   pub goes : Goes c next old new fault
   -- the limit binds: want of room was answered only where the next content passes the limit, and success only where it doesn't
   pub limited : AnswersCommit fault old.fixed.limit c next
@@ -95,10 +104,10 @@ ReturnsBy (Some done) old new result = Returns done old new result
 abbrev pub GivesReply : Result (Vec ℕ Global) KeepFault → Effect → Type 0
 GivesReply result effect = IfOk result (λ reply. reply.items ≡ reply_by effect)
 
--- What a commit of this batch with this reply gave, of each state from which the batch may have been made.
+-- What a commit of this batch with this reply gave, of each state and each effect by which it may have been made.
 abbrev pub CommitGives : List (List ℕ × Option (List ℕ)) → List ℕ → KeeperView → KeeperView → Result (Vec ℕ Global) KeepFault → Type 0
 CommitGives batch reply old new result =
-    (m n : StoreState) (c : Content) → old.content ≡ Some c → StandsForState (after batch c) n → GivesEffect m (Does n reply) c old new result
+    (m : StoreState) (effect : Effect) (c : Content) → old.content ≡ Some c → Achieves effect reply c (after batch c) → GivesEffect m effect c old new result
 
 -- ---- the function of a statement
 
@@ -111,10 +120,10 @@ pub record Fulfils (effect : StoreState → Effect) (lines : Option DoneLines) (
   pub gives : IsDurable old → (m : StoreState) (c : Content) → old.content ≡ Some c → StandsForState c m → GivesEffect m (effect m) c old new result
   pub tells : IsDurable old → ReturnsBy lines old new result
 
--- What a statement with this effect comes to over the content c: the line of its refusal, or a batch that makes of c a content that stands for its state, with this line.
+-- What a statement with this effect comes to over the content c: the line of its refusal, or a batch that makes of c what the effect leads to, with this line.
 abbrev pub IsPlan : Effect → List ℕ → Content → Plan → Type 0
 IsPlan effect line c (PlanRefused fault) = effect ≡ Refused (refusal_of fault)
-IsPlan effect line c (PlanDone batch) = (n : StoreState) × (effect ≡ Does n line) × StandsForState (after batch c) n
+IsPlan effect line c (PlanDone batch) = (done : Effect) × (effect ≡ done) × Achieves done line c (after batch c)
 
 -- Whatever the content is, the batch of a plan puts entries that a store has.
 abbrev pub IsStorePlan : Plan → Type 0

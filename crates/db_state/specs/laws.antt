@@ -2,8 +2,11 @@ pub mod Empty
 pub mod Returning
 pub mod Chains
 pub mod EachValue
+pub mod Alike
+pub mod AlikeChecks
 pub mod Heads
 pub mod Giving
+pub mod SamePostings
 pub mod PrintedLines
 pub mod Serving
 pub mod Columns
@@ -12,7 +15,7 @@ pub mod ShortRows
 pub mod Removing
 pub mod Kinds
 pub mod Holding
-pub mod Unchanged
+pub mod OnlyLooking
 pub mod Contexts
 pub mod CatalogueKeys
 pub mod RuleKeys

@@ -27,6 +27,8 @@ use Rattle.th_store.specs.Sees.{is_at_pair_limit, is_at_thesaurus_limit}
 use Rattle.th_store.specs.laws.Changes.{created_stands, related_stands}
 use Rattle.th_store.specs.laws.Parts.{pair_is_part}
 use Rattle.th_store.specs.laws.Rules.{created_stay, related_stay, stated_is_pair}
+use Rattle.db_state.specs.Entries.{Becomes}
+use Rattle.db_state.specs.laws.SamePostings.{becomes_by, same_beside}
 use Rattle.db_state.specs.laws.ShortRows.{rows_frame}
 use Rattle.db_state.specs.States.{HasShortRows, StoreState, StandsForState, is_of_rows}
 use Rattle.db_thes.specs.declared.stating.StatedRelation.{StatedRelation}
@@ -70,20 +72,25 @@ thesauri_stand c m ts ws stands of are stand rules = record {
   };
 }
 
+thesauri_become : (c : Content) (m : StoreState) (ts : Thesauri) (ws : List (Key × Option (List ℕ))) → StandsForState c m → AllOf is_of_thesauri ws → AreChanges ws → ThesauriStand (view ws (at c)) ts → AreThesauri ts
+    → Becomes (record m { thesauri = ts }) c (after (spell ws) c)
+thesauri_become c m ts ws stands of are stand rules =
+    becomes_by (record m { thesauri = ts }) ws c (thesauri_stand c m ts ws stands of are stand rules) (same_beside is_of_thesauri ws (record m { thesauri = ts }) (at c) of rows_thesauri refl refl refl)
+
 module _ (c : Content) (m : StoreState) (name : List ℕ) (stands : StandsForState c m) where
   -- a new one, where there is room for one
-  pub new_thesaurus_stands : IsName name → get m.thesauri name ≡ None → is_at_thesaurus_limit m.thesauri ≡ false → StandsForState (after (spell (thesaurus_changes name)) c) (record m { thesauri = with_thesaurus m.thesauri name })
-  new_thesaurus_stands is_name none room =
-      thesauri_stand c m (with_thesaurus m.thesauri name) (thesaurus_changes name) stands (refl, tt) (record { owner = is_name; part = refl }, tt)
+  pub new_thesaurus_becomes : IsName name → get m.thesauri name ≡ None → is_at_thesaurus_limit m.thesauri ≡ false → Becomes (record m { thesauri = with_thesaurus m.thesauri name }) c (after (spell (thesaurus_changes name)) c)
+  new_thesaurus_becomes is_name none room =
+      thesauri_become c m (with_thesaurus m.thesauri name) (thesaurus_changes name) stands (refl, tt) (record { owner = is_name; part = refl }, tt)
       (created_stands (at c) m.thesauri name none stands.thesauri)
       (created_stay m.thesauri name stands.state.thesauri is_name (leb-false thesaurus_limit (length (entries m.thesauri)) room))
 
   -- a pair more, where it isn't known and there is room for it
-  pub new_pair_stands : (ps : PairSet) (s : StatedRelation) → get m.thesauri name ≡ Some ps → is_term_text s.first ≡ true → is_term_text s.second ≡ true → is_known s.relation s.first s.second (pairs_of ps) ≡ false → is_at_pair_limit ps ≡ false
-      → StandsForState (after (spell (pair_changes name (stated_pair s.relation s.first s.second))) c) (record m { thesauri = with_pair m.thesauri name (stated_pair s.relation s.first s.second) })
-  new_pair_stands ps s there first second unknown room =
+  pub new_pair_becomes : (ps : PairSet) (s : StatedRelation) → get m.thesauri name ≡ Some ps → is_term_text s.first ≡ true → is_term_text s.second ≡ true → is_known s.relation s.first s.second (pairs_of ps) ≡ false → is_at_pair_limit ps ≡ false
+      → Becomes (record m { thesauri = with_pair m.thesauri name (stated_pair s.relation s.first s.second) }) c (after (spell (pair_changes name (stated_pair s.relation s.first s.second))) c)
+  new_pair_becomes ps s there first second unknown room =
       let p = stated_pair s.relation s.first s.second in
       let part = pair_is_part p (stated_is_pair s.relation s.first s.second first second) in
-      thesauri_stand c m (with_pair m.thesauri name p) (pair_changes name p) stands (refl, tt) (record { owner = stands.state.thesauri.names name ps there; part = part }, tt)
+      thesauri_become c m (with_pair m.thesauri name p) (pair_changes name p) stands (refl, tt) (record { owner = stands.state.thesauri.names name ps there; part = part }, tt)
       (related_stands (at c) m.thesauri name ps p there stands.thesauri)
       (related_stay m.thesauri name ps s.relation s.first s.second there stands.state.thesauri first second unknown (leb-false pair_limit (length (entries ps)) room))

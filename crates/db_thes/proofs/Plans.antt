@@ -24,7 +24,7 @@ use Rattle.db_state.specs.laws.Serving.{plan_of}
 use Rattle.db_thes.specs.declared.stating.StatedRelation.{StatedRelation}
 use Rattle.db_thes.specs.Creating.{created}
 use Rattle.db_thes.specs.Relating.{related}
-use Rattle.db_thes.proofs.NewThesauri.{new_pair_stands, new_thesaurus_stands}
+use Rattle.db_thes.proofs.NewThesauri.{new_pair_becomes, new_thesaurus_becomes}
 
 -- changes of thesauri are ones that a store takes
 pub of_thesauri : (changes : List (List ℕ × Option (List ℕ))) → AreShaped HasThesaurusValue changes → AreStoreChanges changes
@@ -37,9 +37,9 @@ shaped_alone none new ws empty is are = subst (AreShaped HasThesaurusValue) (sym
 module _ (c : Content) (m : StoreState) (name : List ℕ) (batch : List (List ℕ × Option (List ℕ))) (stands : StandsForState c m) where
   pub thesaurus_planned : IsName name → get m.thesauri name ≡ None → is_at_thesaurus_limit m.thesauri ≡ false → batch ≡ spell (thesaurus_changes name) → IsPlan (created m name) call_done c (Done batch)
   thesaurus_planned is_name none room is =
-      plan_of (created m name) c _ (thesaurus_changes name) batch (passes (is_at_thesaurus_limit m.thesauri) LimitReached _ room) is (new_thesaurus_stands c m name stands is_name none room)
+      plan_of (created m name) c _ (thesaurus_changes name) batch (passes (is_at_thesaurus_limit m.thesauri) LimitReached _ room) is (new_thesaurus_becomes c m name stands is_name none room)
 
   pub pair_planned : (ps : PairSet) (s : StatedRelation) → get m.thesauri name ≡ Some ps → is_term_text s.first ≡ true → is_term_text s.second ≡ true → is_known s.relation s.first s.second (pairs_of ps) ≡ false → is_at_pair_limit ps ≡ false
       → batch ≡ spell (pair_changes name (stated_pair s.relation s.first s.second)) → IsPlan (related s m name ps) call_done c (Done batch)
   pair_planned ps s there first second unknown room is =
-      plan_of (related s m name ps) c _ (pair_changes name (stated_pair s.relation s.first s.second)) batch (passes (is_at_pair_limit ps) LimitReached _ room) is (new_pair_stands c m name stands ps s there first second unknown room)
+      plan_of (related s m name ps) c _ (pair_changes name (stated_pair s.relation s.first s.second)) batch (passes (is_at_pair_limit ps) LimitReached _ room) is (new_pair_becomes c m name stands ps s there first second unknown room)

@@ -2,3 +2,4 @@ pub mod Stating
 pub mod Creating
 pub mod Relating
 pub mod Calling
+pub mod laws

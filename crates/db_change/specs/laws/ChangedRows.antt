@@ -13,10 +13,9 @@ use Rattle.ct_entry.specs.declared.kinds.Kind.TheVariants as kind
 use Rattle.ct_entry.specs.Keys.{Key, at, same_list, IsRow}
 use Rattle.ct_entry.specs.Each.{each}
 use Rattle.ct_entry.specs.Lists.{IsIn, AreApart}
-use Rattle.ct_entry.specs.Changes.{spell, view, AreChanges, AllOf}
+use Rattle.ct_entry.specs.Changes.{spell, view, AllPut, AreChanges, AllOf}
 use Rattle.ct_entry.specs.laws.Changes.{at_view, only-after, view-append, are-append, all-append}
 use Rattle.ct_entry.specs.laws.Each.{all_each}
-use Rattle.ct_entry.specs.laws.Parts.{int_from_eq}
 use Rattle.tb_table.specs.declared.columns.Column.{Column}
 use Rattle.tb_table.specs.Tables.{Table, Tables, row_in, row_at, numbers_of, with_row}
 use Rattle.tb_table.specs.Spelling.{TablesStand, insert_changes}
@@ -46,8 +45,13 @@ use Rattle.tx_prefs.specs.laws.Changes.{preferences_frame, other_kinds}
 use Rattle.th_store.specs.laws.Changes.{thesauri_unchanged}
 use Rattle.db_state.specs.States.{StoreState, StandsForState, HasShortRows, is_of_rows, is_view, index_limit}
 use Rattle.db_state.specs.laws.Kinds.{tables_no_noted}
+use Rattle.db_state.specs.Entries.{Becomes, HaveSamePostings}
+use Rattle.db_state.specs.laws.SamePostings.{same_by_notes, same_on}
 use Rattle.db_state.specs.laws.ShortRows.{rows_frame}
 use Rattle.db_change.specs.Updating.{all_update_changes, changing, updated_values, places_set, row_updated, with_updates, numbers_after, texts_set, value_changes, update_changes}
+use Rattle.db_change.specs.laws.SamePlaces.{untidying_leaves}
+use Rattle.db_change.specs.laws.NotedDocuments.{puts-append, puts_each, row_puts}
+use Rattle.db_state.specs.laws.SamePostings.{NoDocument, puts_other}
 use Rattle.db_change.specs.laws.LostRows.{lost_are, lost_is, lost_of, lost_tables}
 use Rattle.db_change.specs.laws.NewRows.{indexes_hold}
 use Rattle.db_change.specs.laws.NewTables.{apart}
@@ -57,18 +61,30 @@ use Rattle.ix_context.specs.laws.ContextRows.{all_weaker}
 
 -- ---- the kinds of the changes
 
--- the own entries of indexes, the kinds of tables, and of what indexes are told
+-- the kinds of tables, and of what indexes are told
+abbrev is_of_values : Kind → Bool
+is_of_values k = is_of_tables k || is_noted k
+
+-- and the own entries of indexes
 abbrev is_of_update : Kind → Bool
-is_of_update k = is_entry k || (is_of_tables k || is_noted k)
+is_of_update k = is_entry k || is_of_values k
 
 of_entries : (k : Kind) → is_entry k ≡ true → is_of_update k ≡ true
-of_entries k h = ap (λ (b : Bool). b || (is_of_tables k || is_noted k)) h
+of_entries k h = ap (λ (b : Bool). b || is_of_values k) h
 
-of_tables : (k : Kind) → is_of_tables k ≡ true → is_of_update k ≡ true
-of_tables k h = or_right (is_entry k) (is_of_tables k || is_noted k) (ap (λ (b : Bool). b || is_noted k) h)
+of_tables : (k : Kind) → is_of_tables k ≡ true → is_of_values k ≡ true
+of_tables k h = ap (λ (b : Bool). b || is_noted k) h
 
-of_noted : (k : Kind) → is_noted k ≡ true → is_of_update k ≡ true
-of_noted k h = or_right (is_entry k) (is_of_tables k || is_noted k) (or_right (is_of_tables k) (is_noted k) h)
+of_noted : (k : Kind) → is_noted k ≡ true → is_of_values k ≡ true
+of_noted k h = or_right (is_of_tables k) (is_noted k) h
+
+of_values : (k : Kind) → is_of_values k ≡ true → is_of_update k ≡ true
+of_values k h = or_right (is_entry k) (is_of_values k) h
+
+values_rows : (k : Kind) → is_of_rows k ≡ true → is_of_values k ≡ false
+values_rows kind.Postings h = refl
+values_rows kind.Spans h = refl
+values_rows k h = cc
 
 update_rows : (k : Kind) → is_of_rows k ≡ true → is_of_update k ≡ false
 update_rows kind.Postings h = refl
@@ -205,12 +221,21 @@ module _ (c : Content) (m : StoreState) (t : List ℕ) (x : Table) (assigns : Li
 
   -- ---- the changes
 
-  updates_kinds : (rows : List ℤ) → AllOf is_of_update (update_changes c m t columns assigns es rows)
+  -- none of them gives a row the number of a document
+  updates_put : (rows : List ℤ) → AllPut NoDocument (update_changes c m t columns assigns es rows)
+  updates_put rows =
+      puts_each (λ r. own r ++ notes r)
+      (λ r. puts-append (own r) (notes r)
+      (puts_other is_of_tables (own r) (all_insert t r (numbers_after columns assigns (numbers_of (row_values m.tables t r))) (texts_set 1 columns assigns)) refl refl)
+      (subst (AllPut NoDocument) (notes_are_changes (at c) m.indexes (table_at m.tables t).columns (change r) names)
+      (puts_each (row_changes_at kinds (at c) m.indexes (table_at m.tables t).columns (change r)) (λ i. row_puts (at c) (table_at m.tables t).columns (change r) i m.indexes) names))) rows
+
+  updates_kinds : (rows : List ℤ) → AllOf is_of_values (update_changes c m t columns assigns es rows)
   updates_kinds rows =
-      all_each is_of_update (λ r. own r ++ notes r)
-      (λ r. all-append is_of_update (own r) (notes r)
-      (all_weaker is_of_tables is_of_update of_tables (own r) (all_insert t r (numbers_after columns assigns (numbers_of (row_values m.tables t r))) (texts_set 1 columns assigns)))
-      (all_weaker is_noted is_of_update of_noted (notes r) (notes_of (at c) (change r) es))) rows
+      all_each is_of_values (λ r. own r ++ notes r)
+      (λ r. all-append is_of_values (own r) (notes r)
+      (all_weaker is_of_tables is_of_values of_tables (own r) (all_insert t r (numbers_after columns assigns (numbers_of (row_values m.tables t r))) (texts_set 1 columns assigns)))
+      (all_weaker is_noted is_of_values of_noted (notes r) (notes_of (at c) (change r) es))) rows
 
   -- as the kinds of the indexes have them
   abbrev kind_notes : ℤ → List (Key × Option (List ℕ))
@@ -277,7 +302,7 @@ module _ (c : Content) (m : StoreState) (t : List ℕ) (x : Table) (assigns : Li
         stands.state.views q was.0 was.1
 
     all : AllOf is_of_update (first ++ later)
-    all = all-append is_of_update first later (all_weaker is_entry is_of_update of_entries first (lost_of c m names rows)) (updates_kinds rows)
+    all = all-append is_of_update first later (all_weaker is_entry is_of_update of_entries first (lost_of c m names rows)) (all_weaker is_of_values is_of_update of_values later (updates_kinds rows))
 
     are : AreChanges (first ++ later)
     are = are-append first later (lost_are c m names stands rows) (updates_are rows there)
@@ -308,3 +333,20 @@ module _ (c : Content) (m : StoreState) (t : List ℕ) (x : Table) (assigns : Li
             thesauri = stands.state.thesauri;
           };
         })
+
+    -- and the indexes have their rows of postings as before
+    changed_rows_leave : HaveSamePostings (with_updates m t x.columns assigns rows) (at c) (view (first ++ later) (at c))
+    changed_rows_leave =
+        let n = with_updates m t x.columns assigns rows in
+        subst (HaveSamePostings n (at c)) (sym (view-append first later (at c)))
+        (same_on n (at c) (view first (at c)) (view later (view first (at c)))
+        (untidying_leaves c m n (looks_at_any kinds places) step t names on rows refl)
+        (same_by_notes is_of_values later n (view first (at c)) (updates_kinds rows) values_rows refl (updates_put rows)))
+
+    pub changed_rows_become : Becomes (with_updates m t x.columns assigns rows) c (after (spell (all_update_changes c m t columns assigns es rows)) c)
+    changed_rows_become = record {
+      stands = changed_rows_stand;
+      keeps =
+          subst (λ (ws : List (Key × Option (List ℕ))). HaveSamePostings (with_updates m t x.columns assigns rows) (at c) (at (after (spell (ws ++ later)) c))) (lost_is c m names rows)
+          (subst (HaveSamePostings (with_updates m t x.columns assigns rows) (at c)) (sym (at_view (first ++ later) c)) changed_rows_leave);
+    }

@@ -1,5 +1,5 @@
 -- The state after rows went.
-use Rattle.std.proofs.Common.{◌≡◌, ℕ, ℤ, ◌+◌, ◌≤◌, Bool, true, false, cond, List, [], ◌∷◌, ◌++◌, Option, Some, None, refl, sym, ap, subst, ◌∙◌, inl, inr, arith}
+use Rattle.std.proofs.Common.{◌≡◌, ℕ, ℤ, ◌≤◌, Bool, true, false, cond, List, [], ◌∷◌, ◌++◌, Option, Some, None, refl, sym, ap, subst, ◌∙◌, inl, inr, arith}
 use Rattle.std.specs.Prelude.{is_some, ◌&&◌, ◌||◌}
 use Rattle.std.specs.Option.{option_map}
 use Rattle.std.specs.Ordering.{int_eq, nat_cmp, eq_by_cmp}
@@ -36,14 +36,18 @@ use Rattle.ix_indexes.specs.Noting.{AllDrop, Noted, all_noted_changes}
 use Rattle.tx_prefs.specs.Spelling.{PreferencesStand}
 use Rattle.tx_prefs.specs.laws.Changes.{preferences_frame, other_kinds}
 use Rattle.th_store.specs.laws.Changes.{thesauri_unchanged}
+use Rattle.db_state.specs.Entries.{Becomes, HaveSamePostings}
+use Rattle.db_state.specs.laws.SamePostings.{same_by_notes, same_on}
 use Rattle.db_state.specs.laws.ShortRows.{rows_frame}
 use Rattle.db_state.specs.laws.Kinds.{tables_no_noted}
 use Rattle.db_state.specs.States.{StoreState, StandsForState, HasShortRows, is_of_rows, is_view, index_limit}
 use Rattle.db_change.specs.Noting.{names_on, noted_on}
 use Rattle.db_change.specs.Deleting.{all_gone_changes, going, gone_row_changes, gone_rows_changes, without_rows}
 use Rattle.db_change.specs.laws.IndexCounts.{few_after}
+use Rattle.db_change.specs.laws.SamePlaces.{untidying_leaves}
 use Rattle.db_change.specs.laws.LostRows.{lost_are, lost_is, lost_of, lost_tables}
 use Rattle.db_change.specs.laws.NewRows.{indexes_hold, names_on_table}
+use Rattle.db_change.specs.laws.NotedDocuments.{drops_put}
 use Rattle.db_change.specs.laws.NewTables.{apart}
 use Rattle.ix_context.specs.laws.ContextRows.{all_weaker}
 use Rattle.ix_indexes.specs.laws.Indexes.{kinds_laws}
@@ -189,6 +193,11 @@ loss_rows kind.Postings h = refl
 loss_rows kind.Spans h = refl
 loss_rows k h = cc
 
+row_rows : (k : Kind) → is_of_rows k ≡ true → is_of_row k ≡ false
+row_rows kind.Postings h = refl
+row_rows kind.Spans h = refl
+row_rows k h = cc
+
 module _ (c : Content) (m : StoreState) (t : List ℕ) (x : Table) (rows : List ℤ) (stands : StandsForState c m) (here : get m.tables t ≡ Some x)
     (once : AreApart rows) (there : (r : ℤ) → IsIn r rows → is_some (row_at m.tables t r) ≡ true) where
   abbrev es : List (List ℕ × Noted)
@@ -259,3 +268,20 @@ module _ (c : Content) (m : StoreState) (t : List ℕ) (x : Table) (rows : List 
           thesauri = stands.state.thesauri;
         };
       })
+
+  -- and the indexes have their rows of postings as before
+  gone_rows_leave : HaveSamePostings (without_rows m t rows) (at c) (view (first ++ later) (at c))
+  gone_rows_leave =
+      let n = without_rows m t rows in
+      subst (HaveSamePostings n (at c)) (sym (view-append first later (at c)))
+      (same_on n (at c) (view first (at c)) (view later (view first (at c)))
+      (untidying_leaves c m n (every kinds) (lose_row t) t names (names_on_table m.indexes t) rows refl)
+      (same_by_notes is_of_row later n (view first (at c)) (all_rows (at c) m.tables t x.columns es rows) row_rows refl (drops_put later (rows_drop (at c) m.tables t x.columns es rows))))
+
+  pub gone_rows_become : Becomes (without_rows m t rows) c (after (spell (all_gone_changes c m t x.columns es rows)) c)
+  gone_rows_become = record {
+    stands = gone_rows_stand;
+    keeps =
+        subst (λ (ws : List (Key × Option (List ℕ))). HaveSamePostings (without_rows m t rows) (at c) (at (after (spell (ws ++ later)) c))) (lost_is c m names rows)
+        (subst (HaveSamePostings (without_rows m t rows) (at c)) (sym (at_view (first ++ later) c)) gone_rows_leave);
+  }

@@ -1,6 +1,6 @@
 -- The state after a table is dropped, and with it the indexes on it.
 use Rattle.std.proofs.Common.{◌≡◌, ℕ, ◌≤◌, Bool, true, false, cond, List, length, Option, Some, None, refl, sym, ap, subst, ◌∙◌, arith}
-use Rattle.std.specs.Prelude.{not, filter, ◌&&◌}
+use Rattle.std.specs.Prelude.{not, filter, is_some, ◌&&◌}
 use Rattle.std.specs.Ordering.{nat_cmp}
 use Rattle.std.specs.Cmp.Lexicographic.{slice_cmp}
 use Rattle.std.specs.FinMap.{get, entries}
@@ -18,7 +18,7 @@ use Rattle.tb_table.specs.laws.Removals.{all_remove, are_remove, stand_remove, g
 use Rattle.tb_table.specs.laws.Rules.{remove_keeps}
 use Rattle.ix_kinds.specs.Statements.{every, is_on, AreIndexesOn, without_indexes_on}
 use Rattle.ix_kinds.specs.Drops.{HaveSameTablesBut, LosesIndexes}
-use Rattle.ix_kinds.specs.laws.Drops.{is_of_table, drop_table_stands, drop_table_keeps}
+use Rattle.ix_kinds.specs.laws.Drops.{get-without_indexes_on, is_of_table, drop_table_stands, drop_table_keeps}
 use Rattle.ix_indexes.specs.Indexes.{Index, kinds, IndexesStand}
 use Rattle.ix_indexes.specs.laws.Removing.{remove_all_loses, all_of_indexes, all_removals_are, told_all}
 use Rattle.db_names.specs.laws.Pairs.{rises_filter}
@@ -27,6 +27,8 @@ use Rattle.tx_prefs.specs.laws.Changes.{preferences_frame, other_kinds}
 use Rattle.th_store.specs.Spelling.{ThesauriStand}
 use Rattle.th_store.specs.laws.Changes.{others_leave_thesauri}
 use Rattle.db_state.specs.States.{StoreState, StandsForState, HasShortRows, is_view, indexes_on, index_limit}
+use Rattle.db_state.specs.Entries.{Becomes, HaveSamePostings}
+use Rattle.db_state.specs.laws.SamePostings.{same_left}
 use Rattle.db_state.specs.laws.ShortRows.{rows_frame, rows_left}
 use Rattle.db_state.specs.laws.EachValue.{entries-from_rising}
 use Rattle.db_state.specs.laws.Kinds.{tables_no_indexes}
@@ -115,3 +117,16 @@ module _ (c : Content) (m : StoreState) (t : List ℕ) (names : List (List ℕ))
           thesauri = stands.state.thesauri;
         };
       }
+
+  -- and all other indexes are as before
+  pub dropped_becomes : Becomes (with_table_dropped m t) c (after (spell (drop_table_changes t c names)) c)
+  dropped_becomes = record {
+    stands = dropped_stands;
+    keeps =
+        subst (HaveSamePostings (with_table_dropped m t) (at c)) (sym (at_view (drop_table_changes t c names) c ∙ view-append (remove_changes t c) (remove_all_changes c names) (at c)))
+        (same_left (with_table_dropped m t) (λ q. is_of_table t (get m.indexes q)) (at c) all_gone loses (λ i here. left i (is_of_table t (get m.indexes i)) refl here));
+  }
+    where
+      left : (i : List ℕ) (b : Bool) → is_of_table t (get m.indexes i) ≡ b → is_some (get (without_indexes_on m.indexes t) i) ≡ true → b ≡ false
+      left i true is here = let none : false ≡ true = sym (ap is_some (get-without_indexes_on m.indexes t i ∙ ap (λ (b : Bool). cond b None (get m.indexes i)) is)) ∙ here in cc
+      left i false is here = refl

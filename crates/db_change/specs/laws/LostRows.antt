@@ -5,17 +5,16 @@ use Rattle.ct_base.specs.Names.{IsName}
 use Rattle.ct_keep.specs.Content.{Content}
 use Rattle.ct_entry.specs.declared.kinds.Kind.{Kind}
 use Rattle.ct_entry.specs.declared.kinds.Kind.TheVariants as kind
-use Rattle.ct_entry.specs.Keys.{Key, at, key}
+use Rattle.ct_entry.specs.Keys.{at, key}
 use Rattle.ct_entry.specs.Changes.{put_value, view, AllOf, AreChanges}
 use Rattle.ct_entry.specs.laws.Each.{are_each}
-use Rattle.tb_table.specs.Tables.{Tables}
 use Rattle.tb_table.specs.Spelling.{TablesStand}
 use Rattle.tb_table.specs.laws.Changes.{is_of_tables, tables_frame}
 use Rattle.ix_kinds.specs.Indextypes.{untidied_index}
 use Rattle.ix_kinds.specs.Standing.{is_entry, index_entry}
 use Rattle.ix_kinds.specs.Statements.{place_of, untidying_at, untidying_for, untidying_in}
 use Rattle.ix_kinds.specs.laws.Untidies.{untidying_of}
-use Rattle.ix_indexes.specs.Indexes.{AreIndexes, Index, kinds}
+use Rattle.ix_indexes.specs.Indexes.{Index, kinds}
 use Rattle.ix_indexes.specs.Noting.{noted_named}
 use Rattle.ix_indexes.specs.laws.Indexes.{kinds_laws}
 use Rattle.ix_indexes.specs.laws.Untidies.{untidying_noted}

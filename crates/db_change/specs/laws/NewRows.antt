@@ -14,7 +14,7 @@ use Rattle.ct_entry.specs.Listings.{key_order}
 use Rattle.std.proofs.lemmas.Bool.{and_parts}
 use Rattle.ct_keep.specs.laws.RisingKeys.{below, rises}
 use Rattle.ct_entry.specs.Each.{each, is_any_of}
-use Rattle.ct_entry.specs.Changes.{spell, told, view, AreChanges}
+use Rattle.ct_entry.specs.Changes.{spell, view, AllPut, AreChanges}
 use Rattle.ct_entry.specs.laws.Changes.{at_view, only-after, view-append, are-append}
 use Rattle.tb_table.specs.Tables.{Table, Tables, numbers_of, texts_of, row_at, row_in, with_row}
 use Rattle.tb_table.specs.Spelling.{TablesStand, insert_changes}
@@ -30,6 +30,9 @@ use Rattle.tx_prefs.specs.Spelling.{PreferencesStand}
 use Rattle.tx_prefs.specs.laws.Changes.{preferences_frame, other_kinds}
 use Rattle.th_store.specs.Spelling.{ThesauriStand}
 use Rattle.th_store.specs.laws.Changes.{others_leave_thesauri}
+use Rattle.db_state.specs.Entries.{Becomes, HaveSamePostings}
+use Rattle.db_change.specs.laws.NotedDocuments.{puts_each, row_puts}
+use Rattle.db_state.specs.laws.SamePostings.{NoDocument, becomes_by, same_beside, same_by_notes, same_on}
 use Rattle.db_state.specs.laws.ShortRows.{rows_frame}
 use Rattle.db_state.specs.States.{StoreState, IsState, StandsForState, HasShortRows, is_view, index_limit}
 use Rattle.db_change.specs.Inserting.{coming, with_new_row}
@@ -187,3 +190,15 @@ module _ (c : Content) (m : StoreState) (t : List ℕ) (x : Table) (r : ℤ) (vs
         short_rows = subst HasShortRows (sym seen) (rows_frame is_noted notes (view own (at c)) all noted_rows (rows_frame is_of_tables own (at c) (all_insert t r (numbers_of vs) (texts_of vs)) rows_tables stands.short_rows));
         state = new_row_state m t x r vs is stands.state row fit room;
       }
+
+  -- and the indexes have their rows of postings as before
+  pub new_row_becomes : Becomes (with_new_row m t r vs) c (after (spell (new_row_changes (at c) t r vs (noted_on m.indexes t))) c)
+  new_row_becomes =
+      let n = with_new_row m t r vs in
+      becomes_by n (own ++ notes) c new_row_stands
+      (subst (HaveSamePostings n (at c)) (sym (view-append own notes (at c)))
+      (same_on n (at c) (view own (at c)) (view notes (view own (at c)))
+      (same_beside is_of_tables own n (at c) (all_insert t r (numbers_of vs) (texts_of vs)) rows_tables refl refl refl)
+      (same_by_notes is_noted notes n (view own (at c)) (notes_of (at c) (coming r vs) (noted_on m.indexes t)) noted_rows refl
+      (subst (AllPut NoDocument) notes_is
+      (puts_each (row_changes_at kinds (at c) m.indexes (table_at m.tables t).columns change) (λ i. row_puts (at c) (table_at m.tables t).columns change i m.indexes) (names_on m.indexes t))))))

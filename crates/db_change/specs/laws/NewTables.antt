@@ -14,7 +14,7 @@ use Rattle.ct_entry.specs.laws.Keys.{list_from_same}
 use Rattle.ct_entry.specs.Changes.{spell}
 use Rattle.ct_entry.specs.laws.Changes.{at_view, only-after}
 use Rattle.tb_table.specs.declared.columns.Column.{Column}
-use Rattle.tb_table.specs.Tables.{Table, Tables, with_table}
+use Rattle.tb_table.specs.Tables.{Table, with_table}
 use Rattle.tb_table.specs.Spelling.{TablesStand, table_changes}
 use Rattle.tb_table.specs.Rules.{AreColumns, HasAllowedSize, IsKeyFirst, AllColumns, HaveDistinctNames, has_column}
 use Rattle.ct_base.specs.Limits.{column_limit, table_limit, text_limit}
@@ -35,6 +35,8 @@ use Rattle.tx_prefs.specs.laws.Changes.{preferences_frame, other_kinds}
 use Rattle.th_store.specs.laws.Changes.{thesauri_unchanged}
 use Rattle.db_state.specs.Effects.{whole_count}
 use Rattle.db_change.specs.Creating.{is_number_sort, is_key_first, names_differ, is_size, is_sized, all_sized, declared_sort, column_of, with_new_table}
+use Rattle.db_state.specs.Entries.{Becomes}
+use Rattle.db_state.specs.laws.SamePostings.{becomes_by, same_beside}
 use Rattle.db_state.specs.laws.ShortRows.{rows_frame}
 use Rattle.db_state.specs.States.{HasShortRows, is_of_rows, StoreState, StandsForState, is_view}
 use Rattle.std.proofs.lemmas.Bool.{or_parts as either, and_parts as both, not-true as not_true}
@@ -158,3 +160,10 @@ created_table_stands c m t cs stands name named free =
     let there = either (is_some (get m.tables t)) (is_view t) free.free in
     let few = either (nat_lt column_limit (length cs)) (nat_le table_limit (length (entries m.tables))) free.few in
     new_table_stands c m t (map column_of cs) stands (no_some (get m.tables t) there.0) there.1 name (columns_pass m t cs named free) (leb-false 64 (length (entries m.tables)) few.1)
+
+-- and indexes are as before
+pub created_table_becomes : (c : Content) (m : StoreState) (t : List ℕ) (cs : List ColumnText) → StandsForState c m → IsName t → AllNamed cs
+    → IsFreeTable m t cs → Becomes (with_new_table m t cs) c (after (spell (table_changes t (map column_of cs))) c)
+created_table_becomes c m t cs stands name named free =
+    becomes_by (with_new_table m t cs) (table_changes t (map column_of cs)) c (created_table_stands c m t cs stands name named free)
+    (same_beside is_of_tables (table_changes t (map column_of cs)) (with_new_table m t cs) (at c) (all_create t (map column_of cs)) rows_tables refl refl refl)

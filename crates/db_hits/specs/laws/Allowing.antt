@@ -1,5 +1,6 @@
 -- What RESULT_SET looks up is within what it may.
-use Rattle.std.specs.Prelude.{ℕ, ◌+◌, ◌≤◌, List, Option, Some, None}
+use Rattle.std.specs.Prelude.{ℕ, ◌+◌, ◌≤◌, Bool, true, false, List, Option, Some, None}
+use Rattle.std.specs.Bool.{if◌then◌else◌}
 use Rattle.std.specs.FinMap.{get}
 use Rattle.std.proofs.Common.{arith}
 use Rattle.ct_keep.specs.Content.{Content}
@@ -12,7 +13,7 @@ use Rattle.ix_indexes.specs.Indexes.{Index}
 use Rattle.db_call.specs.Arguments.{argument_name}
 use Rattle.db_looks.specs.Allowances.{CountsWithin, LooksOver}
 use Rattle.db_state.specs.States.{StoreState, StandsForState}
-use Rattle.db_state.specs.Effects.{Effect, Does, Refused}
+use Rattle.db_state.specs.Effects.{is_done}
 use Rattle.db_find.specs.laws.Looking.{in_rows}
 use Rattle.db_hits.specs.Calling.{parts_in, query_in, result_set, search_for}
 use Rattle.db_hits.specs.Looking.{ResultLooksFew, ResultsLookFew, allowance_by, found_looks, index_allowance, index_looks, looks_by, named_allowance, named_looks, parts_or_none, refused_allowance, result_allowance}
@@ -33,13 +34,14 @@ module _ (looking : QueriesLookFew) (c : Content) (m : StoreState) (args : List 
   name_within None rises = nothing_within old new rises
   name_within (Some i) rises = index_within i (get m.indexes i) rises
 
-  effect_within : (effect : Effect) (name : Option (List ℕ)) → RisesBy (looks_by effect (named_looks c m args name)) old new → CountsWithin (allowance_by effect (named_allowance c m args name)) old new
-  effect_within (Refused refusal) name rises = nothing_within old new rises
-  effect_within (Does next reply) name rises = name_within name rises
+  -- by whether it is refused
+  effect_within : (done : Bool) (name : Option (List ℕ)) → RisesBy (if done then named_looks c m args name else no_looks) old new → CountsWithin (if done then named_allowance c m args name else refused_allowance) old new
+  effect_within false name rises = nothing_within old new rises
+  effect_within true name rises = name_within name rises
 
 -- WHAT RESULT_SET LOOKS UP is within what it may.
 pub results_look_few : QueriesLookFew → ResultsLookFew
-results_look_few looking c m args old new rises = effect_within looking c m args old new (result_set m args) (argument_name 0 args) rises
+results_look_few looking c m args old new rises = effect_within looking c m args old new (is_done (result_set m args)) (argument_name 0 args) rises
 
 -- The same of a keeper of which a RESULT_SET only read.
 pub result_within : {K : Type 0} (view : K → KeeperView) (old new : K) (args : List Arg) (fault : Option KeepFault) → ResultsLookFew → ReadsKeeper (view old) (view new) fault

@@ -40,7 +40,8 @@ use Rattle.db_index.specs.declared.kinds.BuiltKind.TheVariants.{Context, Catalog
 use Rattle.db_index.specs.declared.asking.Wanted.{Wanted}
 use Rattle.db_index.specs.Kinds.{index_kind}
 use Rattle.db_index.specs.Asking.{are_sub_columns}
-use Rattle.db_index.specs.Syncing.{has_too_many, its_sync_changes, with_synced}
+use Rattle.db_state.specs.Entries.{its_sync_changes}
+use Rattle.db_index.specs.Syncing.{has_too_many, with_synced}
 use Rattle.db_index.specs.Indexing.{asked_for, has_index_on, has_too_many_rows, target, with_new_index, IsFreeIndex}
 use Rattle.db_state.specs.laws.ShortRows.{rows_frame, rows_put}
 use Rattle.db_state.specs.States.{StoreState, StandsForState, HasShortRows, indexes_on, index_limit, named_thesauri}

@@ -1,5 +1,6 @@
 -- What a SELECT looks up is within what it may.
-use Rattle.std.specs.Prelude.{ℕ, ◌≡◌, ◌+◌, ◌≤◌, List, [], ◌∷◌, Option, Some, None, refl}
+use Rattle.std.specs.Prelude.{ℕ, ◌≡◌, ◌+◌, ◌≤◌, Bool, true, false, List, [], ◌∷◌, Option, Some, None, refl}
+use Rattle.std.specs.Bool.{if◌then◌else◌}
 use Rattle.std.specs.FinMap.{get}
 use Rattle.std.proofs.Common.{arith, subst, sym}
 use Rattle.std.proofs.lemmas.Option.{same_Some}
@@ -17,13 +18,13 @@ use Rattle.tb_table.specs.laws.NameOrder.{at_most_one}
 use Rattle.ix_search.specs.Looking.{QueriesLookFew}
 use Rattle.db_looks.specs.Allowances.{CountsWithin, LooksOver, RisesWithin}
 use Rattle.db_state.specs.States.{StoreState, StandsForState}
-use Rattle.db_state.specs.Effects.{Effect, Does, Refused}
+use Rattle.db_state.specs.Effects.{Effect, is_done}
 use Rattle.ix_indexes.specs.Indexes.{Index}
 use Rattle.db_find.specs.Looking.{leaving_rules, looks_in, rules_in_index, rules_of_kind}
 use Rattle.db_find.specs.Searches.{Search, Catsearch, Contains, Matches, search_in}
 use Rattle.db_find.specs.Seeking.{named_index}
 use Rattle.db_find.specs.laws.Looking.{in_rows, in_rules, indexes_rows}
-use Rattle.db_select.specs.Looking.{LooksFew, SelectsFew, SelectsLookFew, allowance_by, found_looks, index_looks, looks_by, one_rule_more, searching_allowance, select_allowance, table_looks}
+use Rattle.db_select.specs.Looking.{LooksFew, SelectsFew, SelectsLookFew, found_looks, index_looks, one_rule_more, refused_allowance, searching_allowance, select_allowance, table_allowance, table_looks}
 use Rattle.db_select.specs.Predicates.{conds_in}
 use Rattle.db_select.specs.Statements.{select_statement}
 use Rattle.db_select.specs.Choosing.{Selection}
@@ -67,20 +68,21 @@ none_read (Matches column document) k is = same_Some _ _ is
 
 -- ---- what a statement looks up
 
--- by what the statement does, and by the table, if it is there
-table_within : QueriesLookFew → (c : Content) (m : StoreState) (want : Selection) (t : List ℕ) (conds : List Cond) (s : Search) (effect : Effect) (found : Option Table) (old new : Counts)
-    → RisesBy (leaving_rules s new (looks_by effect (index_looks c) (table_looks c m t found want s conds))) old new → CountsWithin (allowance_by c m want t conds s effect found) old new
-table_within looking c m want t conds s (Refused refusal) found old new rises =
+-- by whether the statement is refused, and by the table, if it is there
+table_within : QueriesLookFew → (c : Content) (m : StoreState) (want : Selection) (t : List ℕ) (conds : List Cond) (s : Search) (done : Bool) (found : Option Table) (old new : Counts)
+    → RisesBy (leaving_rules s new (if done then table_looks c m t found want s conds else index_looks c)) old new
+    → CountsWithin (if done then table_allowance c m want t conds s found else refused_allowance s) old new
+table_within looking c m want t conds s false found old new rises =
     let scanned = scan_looks (code kind.Indexes ∷ []) c in
     let texts : new.texts ≤ old.texts + 0 = leaving_texts s (index_looks c) old new rises in
     let rows : new.rows ≤ old.rows + scanned.rows = leaving_rows s (index_looks c) old new rises in
     let few = indexes_rows c in
     record { texts = texts; rows = omega (arith, rows, few); rules = rules_within None s scanned.rules 0 (index_looks c) old new (none_read s) (one_behind c) (omega arith) rises }
-table_within looking c m want t conds s (Does next reply) None old new rises =
+table_within looking c m want t conds s true None old new rises =
     let texts : new.texts ≤ old.texts + 0 = leaving_texts s no_looks old new rises in
     let rows : new.rows ≤ old.rows + 0 = leaving_rows s no_looks old new rises in
     record { texts = texts; rows = omega (arith, rows); rules = rules_within None s 0 0 no_looks old new (none_read s) (omega arith) (omega arith) rises }
-table_within looking c m want t conds s (Does next reply) (Some x) old new rises =
+table_within looking c m want t conds s true (Some x) old new rises =
     let scanned = scan_looks (code kind.Indexes ∷ []) c in
     let named = named_index m t x.columns s in
     let searched = looks_in c m.tables m.thesauri named s in
@@ -96,7 +98,7 @@ table_within looking c m want t conds s (Does next reply) (Some x) old new rises
 few_within : QueriesLookFew → (effect : Effect) (c : Content) (m : StoreState) (want : Selection) (t : List ℕ) (preds : List Pred) (search : Option Search) (old new : Counts)
     → LooksFew effect c m want t preds search old new → CountsWithin (searching_allowance effect c m want t preds search) old new
 few_within looking effect c m want t preds None old new few = record { texts = tt; rows = tt; rules = tt }
-few_within looking effect c m want t preds (Some s) old new few = table_within looking c m want t (conds_in preds) s effect (get m.tables t) old new few
+few_within looking effect c m want t preds (Some s) old new few = table_within looking c m want t (conds_in preds) s (is_done effect) (get m.tables t) old new few
 
 -- WHAT A SELECT LOOKS UP is within what it may.
 pub selects_look_few : QueriesLookFew → SelectsLookFew

@@ -9,9 +9,11 @@ use Rattle.ct_keep.specs.KeeperViews.{KeeperView, ReadsKeeper, IsDurable, KeepsL
 use Rattle.ct_keep.specs.laws.Composing.{same_limit, reads_then, reads_only, reads_failed, answers_then, answers_failed}
 use Rattle.db_cond.specs.Faults.{Refusal, refusal_line}
 use Rattle.db_state.specs.States.{StoreState, StandsForState}
-use Rattle.db_state.specs.Effects.{Effect, Refused, state_by, reply_by}
+use Rattle.db_state.specs.Effects.{Effect, Refused, OnlyLooks, state_by, reply_by}
+use Rattle.db_state.specs.Entries.{Makes}
 use Rattle.db_state.specs.Room.{room}
-use Rattle.db_state.specs.Plans.{StandsBy, GivesEffect}
+use Rattle.db_state.specs.Plans.{StandsBy, MakesBy, GivesEffect}
+use Rattle.db_state.specs.laws.SamePostings.{looks_make, looks_stay}
 
 -- ---- a statement that is refused, or fails, or only reads
 
@@ -19,9 +21,9 @@ use Rattle.db_state.specs.Plans.{StandsBy, GivesEffect}
 pub keeps_itself : (limit : ℕ) (c : Content) → KeepsLimit limit c c
 keeps_itself limit c = inr (omega arith)
 
-pub gives_refused : (m : StoreState) (effect : Effect) (c : Content) (old new : KeeperView) (v : Vec ℕ Global) → IsDurable old → old.content ≡ Some c → StandsForState c (state_by m effect) → ReadsKeeper old new None → v.items ≡ reply_by effect → GivesEffect m effect c old new (Ok v)
-gives_refused m effect c old new v settled holds stands reads is = record {
-  moves = record { next = c; stands = stands; goes = reads_only c old new settled holds reads; limited = keeps_itself old.fixed.limit c; same = λ e. refl };
+pub gives_refused : (m : StoreState) (effect : Effect) (c : Content) (old new : KeeperView) (v : Vec ℕ Global) → IsDurable old → old.content ≡ Some c → StandsForState c (state_by m effect) → Makes effect c c → ReadsKeeper old new None → v.items ≡ reply_by effect → GivesEffect m effect c old new (Ok v)
+gives_refused m effect c old new v settled holds stands makes reads is = record {
+  moves = record { next = c; stands = stands; makes = makes; goes = reads_only c old new settled holds reads; limited = keeps_itself old.fixed.limit c; same = λ e. refl };
   reply = is;
   full = λ e. cc;
 }
@@ -31,11 +33,17 @@ stands_failed m effect c Memory not_full stands = refl
 stands_failed m effect c NoRoom not_full stands = absurd (not_full refl)
 stands_failed m effect c Disk not_full stands = inl stands
 
+makes_failed : (effect : Effect) (c : Content) (fault : KeepFault) → (Some fault ≡ Some NoRoom → ⊥) → MakesBy (Some fault) effect c c
+makes_failed effect c Memory not_full = tt
+makes_failed effect c NoRoom not_full = absurd (not_full refl)
+makes_failed effect c Disk not_full = inl refl
+
 pub gives_failed : (m : StoreState) (effect : Effect) (c : Content) (old new : KeeperView) (fault : KeepFault) → IsDurable old → old.content ≡ Some c → StandsForState c m → ReadsKeeper old new (Some fault) → GivesEffect m effect c old new (Err fault)
 gives_failed m effect c old new fault settled holds stands reads = record {
   moves = record {
     next = c;
     stands = stands_failed m effect c fault reads.not_full stands;
+    makes = makes_failed effect c fault reads.not_full;
     goes = reads_failed c c old new fault settled holds reads;
     limited = answers_failed fault old.fixed.limit c c (λ e. reads.not_full (ap (λ (f : KeepFault). Some f) e));
     same = λ e. refl;
@@ -51,6 +59,7 @@ gives_then m effect c old mid new result reads gives = record {
   moves = record {
     next = gives.moves.next;
     stands = gives.moves.stands;
+    makes = gives.moves.makes;
     goes = reads_then c gives.moves.next old mid new (fault_of result) reads gives.moves.goes;
     limited = answers_then c gives.moves.next old mid (fault_of result) reads gives.moves.limited;
     same = gives.moves.same;
@@ -64,7 +73,7 @@ gives_then m effect c old mid new result reads gives = record {
 -- a refusal, by its line
 pub gives_line : (m : StoreState) (effect : Effect) (refusal : Refusal) (c : Content) (old new : KeeperView) (v : Vec ℕ Global) → IsDurable old → old.content ≡ Some c → StandsForState c m → ReadsKeeper old new None → effect ≡ Refused refusal → v.items ≡ refusal_line refusal → GivesEffect m effect c old new (Ok v)
 gives_line m effect refusal c old new v settled holds stands reads is line =
-    subst (λ (e : Effect). GivesEffect m e c old new (Ok v)) (sym is) (gives_refused m (Refused refusal) c old new v settled holds stands reads line)
+    subst (λ (e : Effect). GivesEffect m e c old new (Ok v)) (sym is) (gives_refused m (Refused refusal) c old new v settled holds stands refl reads line)
 
 -- the effect as it is computed
 pub gives_as : (m : StoreState) (effect done : Effect) (c : Content) (old new : KeeperView) (result : Result (Vec ℕ Global) KeepFault) → effect ≡ done → GivesEffect m done c old new result → GivesEffect m effect c old new result
@@ -72,11 +81,12 @@ gives_as m effect done c old new result is gives = subst (λ (e : Effect). Gives
 
 -- ---- statements that only read
 
--- what reads alone give of an effect that leaves the state
+-- what reads alone give of an effect that only looks
 pub gives_read : (m : StoreState) (effect : Effect) (c : Content) (old new : KeeperView) (result : Result (Vec ℕ Global) KeepFault) → IsDurable old → old.content ≡ Some c → StandsForState c m → ReadsKeeper old new (fault_of result)
-    → IfOk result (λ v. v.items ≡ reply_by effect) → state_by m effect ≡ m → GivesEffect m effect c old new result
-gives_read m effect c old new (Ok v) settled holds stands reads reply same = gives_refused m effect c old new v settled holds (subst (StandsForState c) (sym same) stands) reads reply
-gives_read m effect c old new (Err fault) settled holds stands reads reply same = gives_failed m effect c old new fault settled holds stands reads
+    → IfOk result (λ v. v.items ≡ reply_by effect) → OnlyLooks m effect → GivesEffect m effect c old new result
+gives_read m effect c old new (Ok v) settled holds stands reads reply looks =
+    gives_refused m effect c old new v settled holds (subst (StandsForState c) (sym (looks_stay m effect looks)) stands) (looks_make m effect c looks) reads reply
+gives_read m effect c old new (Err fault) settled holds stands reads reply looks = gives_failed m effect c old new fault settled holds stands reads
 
 -- how often a commit was refused: they make none
 pub reads_fulls : (old new : KeeperView) (result : Result (Vec ℕ Global) KeepFault) → ReadsKeeper old new (fault_of result) → new.counts.fulls ≡ counted (is_full (fault_of result)) old.counts.fulls

@@ -1,5 +1,5 @@
 -- The ways out of the function of a statement: each is proved once, by one of these.
-use Rattle.std.proofs.Common.{◌≡◌, ◌≤◌, ℕ, true, List, Option, Some, None, Result, Ok, Err, Vec, ◌++◌, sym, ap, subst, ◌∙◌, arith, inr, inl}
+use Rattle.std.proofs.Common.{◌≡◌, ◌≤◌, ℕ, true, List, Option, Some, None, Result, Ok, Err, Vec, ◌++◌, refl, sym, ap, subst, ◌∙◌, arith, inr, inl}
 use Rattle.std.specs.Result.{IfOk}
 use Rattle.std.specs.declared.alloc.Global.{Global}
 use Rattle.ct_keep.specs.declared.keepers.KeepFault.{KeepFault}
@@ -13,7 +13,8 @@ use Rattle.ct_keep.specs.KeeperViews.{AtMostOneCommit, KeeperView, SameButConten
 use Rattle.ct_keep.specs.laws.Composing.{commits_read, kept_then, reads_hold, reads_on, reads_short}
 use Rattle.db_cond.specs.Faults.{Refusal, refusal_line}
 use Rattle.db_state.specs.States.{StoreState, StandsForState}
-use Rattle.db_state.specs.Effects.{Effect, Refused, Does, state_by, reply_by}
+use Rattle.db_state.specs.Effects.{Effect, Refused, Does, OnlyLooks, reply_by}
+use Rattle.db_state.specs.Entries.{Becomes, Achieves}
 use Rattle.db_state.specs.Lines.{call_done}
 use Rattle.db_state.specs.Plans.{DoneLines, line_for_all, GivesEffect, Returns, ReturnsBy, Fulfils, IsPlanOf, IsPlan, IsNoHeavier, IsRemoval}
 use Rattle.db_state.specs.declared.plans.Plan.{Plan}
@@ -66,12 +67,12 @@ module _ (effect : StoreState → Effect) (line : Option DoneLines) (old new : K
 
 -- it only reads
 pub serves_look : (effect : StoreState → Effect) (old new : KeeperView) (result : Result (Vec ℕ Global) KeepFault) → ReadsKeeper old new (fault_of result)
-    → ((m : StoreState) (c : Content) → old.content ≡ Some c → StandsForState c m → IfOk result (λ reply. reply.items ≡ reply_by (effect m))) → ((m : StoreState) → state_by m (effect m) ≡ m) → Fulfils effect None old new result
-serves_look effect old new result reads reply stays = record {
+    → ((m : StoreState) (c : Content) → old.content ≡ Some c → StandsForState c m → IfOk result (λ reply. reply.items ≡ reply_by (effect m))) → ((m : StoreState) → OnlyLooks m (effect m)) → Fulfils effect None old new result
+serves_look effect old new result reads reply looks = record {
   kept = reads.kept;
   fulls = reads_fulls old new result reads;
   once = commits_read old new (fault_of result) reads;
-  gives = λ settled m c holds stands. gives_read m (effect m) c old new result settled holds stands reads (reply m c holds stands) (stays m);
+  gives = λ settled m c holds stands. gives_read m (effect m) c old new result settled holds stands reads (reply m c holds stands) (looks m);
   tells = λ settled. reads;
 }
 
@@ -108,14 +109,14 @@ plan_then effect line old mid plan reads fits = record { made = λ m c holds sta
 -- the commit of a batch, by what is promised of it for every state
 pub serves_batch : (effect : StoreState → Effect) (line : List ℕ) (batch : List (List ℕ × Option (List ℕ))) (reply : List ℕ) (old new : KeeperView) (result : Result (Vec ℕ Global) KeepFault) → reply ≡ line → IsPlanOf effect line old (Done batch)
     → SameButContent old new (fault_of result) → new.counts.fulls ≡ counted (is_full (fault_of result)) old.counts.fulls → AtMostOneCommit old new
-    → ((m n : StoreState) (c : Content) → old.content ≡ Some c → StandsForState (after batch c) n → GivesEffect m (Does n reply) c old new result) → Returns (line_for_all reply) old new result → Fulfils effect (Some (line_for_all line)) old new result
+    → ((m : StoreState) (e : Effect) (c : Content) → old.content ≡ Some c → Achieves e reply c (after batch c) → GivesEffect m e c old new result) → Returns (line_for_all reply) old new result → Fulfils effect (Some (line_for_all line)) old new result
 serves_batch effect line batch reply old new result same fits kept fulls once gives tells = record {
   kept = kept;
   fulls = fulls;
   once = once;
   gives = λ settled m c holds stands.
       let made = fits.made m c holds stands in
-      gives_as m (effect m) (Does made.0 reply) c old new result (made.1 ∙ ap (Does made.0) (sym same)) (gives m made.0 c holds made.2);
+      gives_as m (effect m) made.0 c old new result made.1 (gives m made.0 c holds (subst (λ (l : List ℕ). Achieves made.0 l c (after batch c)) (sym same) made.2));
   tells = λ settled. subst (λ (l : List ℕ). Returns (line_for_all l) old new result) same tells;
 }
 
@@ -170,7 +171,10 @@ pub removal_light : (c : Content) (plan : Plan) → IsRemoval plan → IsNoHeavi
 removal_light c (PlanRefused fault) removal = tt
 removal_light c (Done batch) removal = let more = weight-after_le batch c in omega (arith, more, removal)
 
--- the plan of the changes by which a content stands for a state
+-- the plan of a batch by which a content comes to stand for a state, with its rows of postings as they are
+pub plan_does : (effect : Effect) (c : Content) (n : StoreState) (line : List ℕ) (batch : List (List ℕ × Option (List ℕ))) → effect ≡ Does n line → Becomes n c (after batch c) → IsPlan effect line c (Done batch)
+plan_does effect c n line batch does becomes = (Does n line, does, (refl, becomes.stands, becomes.keeps))
+
 pub plan_of : (effect : Effect) (c : Content) (n : StoreState) (ws : List (Key × Option (List ℕ))) (batch : List (List ℕ × Option (List ℕ)))
-    → effect ≡ Does n call_done → batch ≡ spell ws → StandsForState (after (spell ws) c) n → IsPlan effect call_done c (Done batch)
-plan_of effect c n ws batch does is stands = (n, does, subst (λ (b : List (List ℕ × Option (List ℕ))). StandsForState (after b c) n) (sym is) stands)
+    → effect ≡ Does n call_done → batch ≡ spell ws → Becomes n c (after (spell ws) c) → IsPlan effect call_done c (Done batch)
+plan_of effect c n ws batch does is becomes = plan_does effect c n call_done batch does (subst (λ (b : List (List ℕ × Option (List ℕ))). Becomes n c (after b c)) (sym is) becomes)

@@ -5,7 +5,7 @@ use Rattle.ct_entry.specs.Keys.{IsRow}
 use Rattle.ix_indexes.specs.Noting.{any_needs_values, HasShortTexts, noted_indexes}
 use Rattle.db_change.specs.Inserting.{coming, kept_value, IsNumberKept, IsTextKept}
 use Rattle.db_change.proofs.NoteSteps.{new_short, on_held}
-use Rattle.db_change.proofs.RowSteps.{batch_stands}
+use Rattle.db_change.proofs.RowSteps.{batch_becomes}
 use Rattle.db_change.proofs.ShapeSteps.{few_behind, short_behind, row_and_notes}
 use Rattle.db_change.proofs.inserting.insert_batch.Goals as goal
 
@@ -22,7 +22,7 @@ returns-clause-batch g c = λ m k x holds stands here columns free.
     let next_is : any_needs_values c.deref-2.result.now ≡ true → next ≡ kept =
     λ matter. c.as_slice-next.ensures.value ∙ c.in_ok-new.ensures (ap any_needs_values (c.deref.ensures.value ∙ sym c.deref-2.ensures.value) ∙ matter) ∙ ap (map kept_value) given in
     let told = c.in_ok-notes.ensures.changes k after (on_held k m c.args.table.now stands _ noted) (coming r kept) (record { row = refl; is = (refl, refl); values = λ matter. (ap Some (sym (next_is matter)), subst HasShortTexts (sym (next_is matter)) (new_short vs (short_behind c.args.values.items vs c.behind_key-values.ensures c.requires.short))) }) in
-    batch_stands k m c.args.table.now x r c.args.values.items vs stands here free row c.behind_key-values.ensures (subst (All IsNumberKept) given c.keep_values.ensures.numbers) (subst (All IsTextKept) given c.keep_values.ensures.texts)
+    batch_becomes k m c.args.table.now x r c.args.values.items vs stands here free row c.behind_key-values.ensures (subst (All IsNumberKept) given c.keep_values.ensures.numbers) (subst (All IsTextKept) given c.keep_values.ensures.texts)
     (noted_indexes c.deref-2.result.now) noted c.in_ok-batch.batch c.append.new.self c.in_ok-batch.ensures.changes
     (c.in_ok-append.ensures.ok ∙ ap (λ (notes : List (List ℕ × Option (List ℕ))). c.in_ok-batch.batch ++ notes) told)
 

@@ -9,6 +9,7 @@ use Rattle.st_parse.specs.declared.statements.Operand.{Operand}
 use Rattle.db_cond.specs.Faults.{OutOfRange}
 use Rattle.db_cond.specs.Refused.{refusal_of}
 use Rattle.db_state.specs.Effects.{Refused, Does}
+use Rattle.db_state.specs.laws.Serving.{plan_does}
 use Rattle.db_change.specs.Inserting.{has_row, insert_values, others_kept, row_created, with_new_row, IsFreeRow, IsShortValue}
 use Rattle.db_change.proofs.InsertSteps.{values_refused, values_without_key, values_inserted, values_free}
 use Rattle.db_change.proofs.inserting.values_plan.Goals as goal
@@ -38,12 +39,10 @@ returns-clause-plan g c = λ m k x holds stands here columns.
     let many = c.in_ok-many.ensures.many m k x (reads_hold _ _ k c.in_ok-taken.ensures.reads holds) stands here in
     let free = subst (λ (vs : List Operand). IsFreeRow x vs key) c.as_slice-slice.ensures.value (values_free m t x slice c.in_ok-taken.taken c.in_ok-many.many c.args.columns.now taken many columns (c.in_default.ensures.checks few) key is) in
     let after = reads_hold _ _ k (reads_on _ _ _ _ c.in_ok-taken.ensures.reads c.in_ok-many.ensures.reads) holds in
-    let made = c.in_ok-batch.ensures.batch m k x after stands here columns free in (
-      _,
-      subst (λ (vs : List Operand). insert_values m t x vs ≡ Does (with_new_row m t key (others_kept vs)) row_created) c.as_slice-slice.ensures.value
-          (values_inserted m t x slice c.in_ok-taken.taken c.in_ok-many.many c.args.columns.now taken many columns (c.in_default.ensures.checks few) key is),
-      made,
-    )
+    plan_does _ k _ _ c.in_ok-batch.batch
+    (subst (λ (vs : List Operand). insert_values m t x vs ≡ Does (with_new_row m t key (others_kept vs)) row_created) c.as_slice-slice.ensures.value
+    (values_inserted m t x slice c.in_ok-taken.taken c.in_ok-many.many c.args.columns.now taken many columns (c.in_default.ensures.checks few) key is))
+    (c.in_ok-batch.ensures.batch m k x after stands here columns free)
 
 pub insert_batch-requires-clause-few : goal.insert_batch-requires-clause-few
 insert_batch-requires-clause-few g c = subst (λ (vs : List Operand). length vs ≤ column_limit) c.as_slice-slice.ensures.value (c.in_default.ensures.few refl)

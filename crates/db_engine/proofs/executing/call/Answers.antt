@@ -12,7 +12,7 @@ use Rattle.db_state.specs.laws.Serving.{serves_as, serves_look}
 use Rattle.db_hits.specs.Calling.{result_set}
 use Rattle.db_hits.specs.Looking.{result_allowance}
 use Rattle.db_hits.specs.laws.Allowing.{result_within}
-use Rattle.db_hits.specs.laws.Keeping.{result_keeps}
+use Rattle.db_hits.specs.laws.Keeping.{result_only_looks}
 use Rattle.db_engine.specs.Steps.{call}
 use Rattle.db_engine.specs.Executing.{call_line, is_fixed_call}
 use Rattle.db_engine.specs.Looking.{call_allowance}
@@ -57,7 +57,7 @@ pub returns-in-ResultSet-clause-serves : goal.returns-in-ResultSet-clause-serves
 returns-in-ResultSet-clause-serves g c =
     let args : List Arg = c.as_slice-in-ResultSet.result.now in
     serves_as (λ m. result_set m args) _ None _ _ _ c.result_set.result (λ m. ap (λ (p : Procedure). call m p c.args.args.now) c.in-ResultSet.is ∙ ap (call m ResultSet) (sym c.as_slice-in-ResultSet.ensures)) (ap call_line c.in-ResultSet.is)
-    (serves_look _ _ _ _ c.result_set.ensures.reads c.result_set.ensures.reply (λ m. result_keeps m args))
+    (serves_look _ _ _ _ c.result_set.ensures.reads c.result_set.ensures.reply (λ m. result_only_looks m args))
 
 pub returns-in-ResultSet-clause-fixed : goal.returns-in-ResultSet-clause-fixed
 returns-in-ResultSet-clause-fixed g c = λ m fixed. absurd (false≢true (sym (ap (λ (p : Procedure). is_fixed_call p c.args.args.now) c.in-ResultSet.is) ∙ fixed))

@@ -24,7 +24,7 @@ use Rattle.db_select.specs.Looking.{select_allowance}
 use Rattle.db_select.specs.Statements.{select_statement}
 use Rattle.db_select.specs.Choosing.{selection}
 use Rattle.db_select.specs.laws.Allowing.{select_within}
-use Rattle.db_select.specs.laws.Selects.{statement_keeps}
+use Rattle.db_select.specs.laws.Selects.{select_only_looks}
 use Rattle.db_engine.specs.Looking.{allowance, call_allowance}
 use Rattle.db_engine.specs.Steps.{call, effect}
 use Rattle.db_engine.specs.Executing.{done_line, is_fixed}
@@ -53,7 +53,7 @@ returns-in-Select-clause-serves g c =
     let lent : selection c.in-Select.list c.in-Select.orders ≡ want = ap (selection c.in-Select.list) (sym c.as_slice-in-Select-2.ensures) in
     serves_as (λ m. select_statement m want c.in-Select.table c.as_slice-in-Select.result.now) _ None _ _ _ c.select.result
     (λ m. ap (effect m) c.in-Select.is ∙ λ i. select_statement m (lent i) c.in-Select.table (sym c.as_slice-in-Select.ensures i)) (ap done_line c.in-Select.is)
-    (serves_look _ _ _ _ c.select.ensures.reads c.select.ensures.reply (λ m. statement_keeps m want c.in-Select.table c.as_slice-in-Select.result.now))
+    (serves_look _ _ _ _ c.select.ensures.reads c.select.ensures.reply (λ m. select_only_looks m want c.in-Select.table c.as_slice-in-Select.result.now))
 
 pub returns-in-Exec-clause-serves : goal.returns-in-Exec-clause-serves
 returns-in-Exec-clause-serves g c =

@@ -4,7 +4,7 @@ use Rattle.ct_base.specs.Names.{is_kept}
 use Rattle.ct_base.specs.laws.Options.{match_none}
 use Rattle.ct_keep.specs.Content.{after}
 use Rattle.db_state.specs.States.{StandsForState}
-use Rattle.db_index.specs.Indexing.{with_new_index}
+use Rattle.db_index.specs.Indexing.{index_made_by, with_new_index}
 use Rattle.db_index.specs.laws.NewMarks.{new_index_stands}
 use Rattle.db_index.proofs.Found.{found_some}
 use Rattle.db_index.proofs.IndexChecks.{no_limit_passed}
@@ -18,8 +18,12 @@ pub returns-clause-plan : goal.returns-clause-plan
 returns-clause-plan g c = λ m k holds stands x small free.
     let i = c.args.index.now in let t = c.args.table.now in let kind = c.args.kind in let place = c.args.place in let w = c.args.wanted in
     let changes = found_some c.in_ok-found.found c.in-Some.batch _ _ c.in-Some.is (c.in_ok-found.ensures.changes m k holds stands small) in (
-      with_new_index m i t kind place w,
+      index_made_by m i t kind place w,
       refl,
-      subst (λ (b : List (List ℕ × Option (List ℕ))). StandsForState (after b k) (with_new_index m i t kind place w)) (sym changes)
-          (new_index_stands k m i t kind x place w stands c.as_str-named.ensures.name c.keep_rules.ensures c.requires.can.subs (ap (list_all (list_all is_kept)) (sym c.as_slice.ensures) ∙ c.keep_names.ensures) free),
+      (
+        refl,
+        subst (λ (b : List (List ℕ × Option (List ℕ))). StandsForState (after b k) (with_new_index m i t kind place w)) (sym changes)
+            (new_index_stands k m i t kind x place w stands c.as_str-named.ensures.name c.keep_rules.ensures c.requires.can.subs (ap (list_all (list_all is_kept)) (sym c.as_slice.ensures) ∙ c.keep_names.ensures) free),
+        ap (λ (b : List (List ℕ × Option (List ℕ))). after b k) changes,
+      ),
     )

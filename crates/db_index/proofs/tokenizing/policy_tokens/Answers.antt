@@ -1,7 +1,7 @@
 use Rattle.std.proofs.lemmas.Result.{err_from_is_err_and}
 use Rattle.ct_keep.specs.laws.Composing.{reads_none}
 use Rattle.db_state.specs.laws.Serving.{serves_look, serves_short}
-use Rattle.db_index.proofs.TokenChecks.{tokens_keep}
+use Rattle.db_index.proofs.TokenChecks.{tokens_only_look}
 use Rattle.db_index.proofs.tokenizing.policy_tokens.Goals as goal
 
 pub returns-in_err-default_tokens-clause-serves : goal.returns-in_err-default_tokens-clause-serves
@@ -9,8 +9,8 @@ returns-in_err-default_tokens-clause-serves g c = serves_short _ _ _ _ _ (reads_
 
 pub returns-then-reads_no_preference-clause-serves : goal.returns-then-reads_no_preference-clause-serves
 returns-then-reads_no_preference-clause-serves g c =
-    serves_look _ _ _ _ (reads_none _ c.requires) (λ m k holds stands. c.in_ok-default_tokens.ensures m) (λ m. tokens_keep m c.args.args.now)
+    serves_look _ _ _ _ (reads_none _ c.requires) (λ m k holds stands. c.in_ok-default_tokens.ensures m) (λ m. tokens_only_look m c.args.args.now)
 
 pub returns-clause-serves : goal.returns-clause-serves
 returns-clause-serves g c =
-    serves_look _ _ _ _ c.named_tokens.ensures.reads c.named_tokens.ensures.reply (λ m. tokens_keep m c.args.args.now)
+    serves_look _ _ _ _ c.named_tokens.ensures.reads c.named_tokens.ensures.reply (λ m. tokens_only_look m c.args.args.now)

@@ -14,13 +14,13 @@ commit-requires-clause-well g c =
     well_weaker IsStoreEntry (g.K.Keeper.view c.args.keeper.now).well c.requires.accepts.takes c.args.batch c.requires.entries
 
 pub returns-in_err-commit-clause-gives : goal.returns-in_err-commit-clause-gives
-returns-in_err-commit-clause-gives g c = λ m n k holds stands.
+returns-in_err-commit-clause-gives g c = λ m e k holds leads.
     let p = err_from_is_err_and c.from_residual.result c.from_residual.ensures.1 in
-    rw (p.1, p.2) (gives_uncommitted m n c.args.reply.items k (after c.args.batch k) _ _ c.in_err-commit.field-0.0 stands (c.in_err-commit.ensures.goes k holds) (c.in_err-commit.ensures.answers k holds))
+    rw (p.1, p.2) (gives_uncommitted m e c.args.reply.items k (after c.args.batch k) _ _ c.in_err-commit.field-0.0 leads (c.in_err-commit.ensures.goes k holds) (c.in_err-commit.ensures.answers k holds))
 
 pub returns-clause-gives : goal.returns-clause-gives
-returns-clause-gives g c = λ m n k holds stands.
-    gives_committed m n c.args.reply k (after c.args.batch k) _ _ stands (c.in_ok-commit.ensures.goes k holds) (c.in_ok-commit.ensures.answers k holds)
+returns-clause-gives g c = λ m e k holds leads.
+    gives_committed m e c.args.reply k (after c.args.batch k) _ _ leads (c.in_ok-commit.ensures.goes k holds) (c.in_ok-commit.ensures.answers k holds)
 
 -- ---- what it tells over any content
 
