@@ -12,10 +12,11 @@ use Rattle.ct_keep.specs.KeeperViews.{KeeperView, Counts, KeeperSays, SameButCon
 use Rattle.ct_keep.specs.laws.Composing.{same_say_room, reads_none, reads_short, reads_only, reads_failed, passes_as}
 use Rattle.db_looks.specs.laws.Composing.{over_behind}
 use Rattle.db_state.specs.States.{StoreState, StandsForState}
-use Rattle.db_state.specs.Effects.{Effect, state_by}
+use Rattle.db_state.specs.Effects.{Effect, OnlyLooks, state_by}
 use Rattle.db_state.specs.laws.Giving.{keeps_itself}
 use Rattle.db_engine.specs.Runs.{Piece, statement, Answer, Step, NoMemory, Full, Turn, turn, turn_by, effect_by, IsAllowed}
-use Rattle.db_state.specs.Plans.{StandsBy, Moves}
+use Rattle.db_state.specs.Plans.{StandsBy, MakesBy, Moves}
+use Rattle.db_state.specs.laws.SamePostings.{looks_make, looks_stay}
 use Rattle.db_engine.specs.Executing.{fault_for, fault_of_stop}
 use Rattle.db_engine.specs.declared.replies.Stop.{Stop as Halt}
 use Rattle.db_engine.specs.declared.replies.Stop.TheVariants.{Disk as DiskHalt}
@@ -29,11 +30,18 @@ use Rattle.db_console.proofs.Lasting.{faults_kept, faults_said, faults_then, fai
 
 -- ---- nothing is committed
 
-pub moves_not : (m : StoreState) (effect : Effect) (c : Content) (k : KeeperView) → k.ready → IsDurable k → k.content ≡ Some c → StandsForState c (state_by m effect) → Moves m effect c k k None
-moves_not m effect c k ready settled holds stands = record { next = c; stands = stands; goes = reads_only c k k settled holds (reads_none k ready); limited = keeps_itself k.fixed.limit c; same = λ e. refl }
+pub moves_not : (m : StoreState) (effect : Effect) (c : Content) (k : KeeperView) → k.ready → IsDurable k → k.content ≡ Some c → StandsForState c m → OnlyLooks m effect → Moves m effect c k k None
+moves_not m effect c k ready settled holds stands looks = record {
+  next = c;
+  stands = subst (StandsForState c) (sym (looks_stay m effect looks)) stands;
+  makes = looks_make m effect c looks;
+  goes = reads_only c k k settled holds (reads_none k ready);
+  limited = keeps_itself k.fixed.limit c;
+  same = λ e. refl;
+}
 
 pub moves_short : (m : StoreState) (effect : Effect) (c : Content) (k : KeeperView) → k.ready → IsDurable k → k.content ≡ Some c → Moves m effect c k k (Some keep_fault.Memory)
-moves_short m effect c k ready settled holds = record { next = c; stands = refl; goes = reads_failed c c k k keep_fault.Memory settled holds (reads_short k k (reads_none k ready)); limited = tt; same = λ e. refl }
+moves_short m effect c k ready settled holds = record { next = c; stands = refl; makes = tt; goes = reads_failed c c k k keep_fault.Memory settled holds (reads_short k k (reads_none k ready)); limited = tt; same = λ e. refl }
 
 -- ---- the moments of one turn
 
@@ -82,23 +90,23 @@ module _ (limit : ℕ) (piece : Piece) (was : World) (old new : KeeperView) (sho
   in_commit NoMemory next stands x w left said = before limit was (one NoMemory) was.content x w left shows.stands (told w said)
   in_commit Full next stands x w left said = before limit was (one Full) was.content x w left shows.stands (told w said)
 
-  replied_with : (a : Answer) (bytes : List ℕ) (next : Content) → StandsBy (fault_for a) was.state does was.content next → Goes was.content next old new (fault_for a)
+  replied_with : (a : Answer) (bytes : List ℕ) (next : Content) → StandsBy (fault_for a) was.state does was.content next → MakesBy (fault_for a) does was.content next → Goes was.content next old new (fault_for a)
       → AnswersCommit (fault_for a) old.fixed.limit was.content next → IsAllowed limit old.fixed.limit was.state piece a → bytes ≡ (turn limit was.state (one a)).1 → Replied limit piece was old new bytes
-  replied_with Step bytes next stands goes answers allowed is = record { answer = Step; allowed = allowed; is = is; content = next; holds = goes.content; stands = stands; limited = (stands, answers); moments = passes_more old.time new.time _ _ goes.time (λ x w p. in_commit Step next stands x w p.0 p.1) }
-  replied_with NoMemory bytes next stands goes answers allowed is = record { answer = NoMemory; allowed = allowed; is = is; content = was.content; holds = goes.content; stands = shows.stands; limited = refl; moments = passes_more old.time new.time _ _ goes.time (λ x w p. in_commit NoMemory next stands x w p.0 p.1) }
-  replied_with Full bytes next stands goes answers allowed is = record {
+  replied_with Step bytes next stands makes goes answers allowed is = record { answer = Step; allowed = allowed; is = is; content = next; holds = goes.content; stands = stands; limited = (stands, answers, makes); moments = passes_more old.time new.time _ _ goes.time (λ x w p. in_commit Step next stands x w p.0 p.1) }
+  replied_with NoMemory bytes next stands makes goes answers allowed is = record { answer = NoMemory; allowed = allowed; is = is; content = was.content; holds = goes.content; stands = shows.stands; limited = refl; moments = passes_more old.time new.time _ _ goes.time (λ x w p. in_commit NoMemory next stands x w p.0 p.1) }
+  replied_with Full bytes next stands makes goes answers allowed is = record {
     answer = Full;
     allowed = allowed;
     is = is;
     content = was.content;
     holds = goes.content;
     stands = shows.stands;
-    limited = (refl, record { next = next; stands = stands; passes = answers });
+    limited = (refl, record { next = next; stands = stands; makes = makes; passes = answers });
     moments = passes_more old.time new.time _ _ goes.time (λ x w p. in_commit Full next stands x w p.0 p.1);
   }
 
   pub replied_by : (a : Answer) (bytes : List ℕ) → Moves was.state does was.content old new (fault_for a) → IsAllowed limit old.fixed.limit was.state piece a → bytes ≡ (turn limit was.state (one a)).1 → Replied limit piece was old new bytes
-  replied_by a bytes moves allowed is = replied_with a bytes moves.next moves.stands moves.goes moves.limited allowed is
+  replied_by a bytes moves allowed is = replied_with a bytes moves.next moves.stands moves.makes moves.goes moves.limited allowed is
 
   -- the disk failed
   stands_either : (next : Content) (x : Option Content) → StandsForState next was.state ⊎ StandsForState next (state_by was.state does) → (x ≡ Some was.content) ⊎ (x ≡ Some next)

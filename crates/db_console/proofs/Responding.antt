@@ -13,7 +13,7 @@ use Rattle.st_parse.specs.declared.parsing.StatementFault.{StatementFault}
 use Rattle.st_parse.specs.declared.parsing.StatementFault.TheVariants.{Syntax, Memory}
 use Rattle.db_cond.specs.Faults.{NotUnderstood, StatementTooLong, out_of_memory, not_understood, statement_too_long}
 use Rattle.db_state.specs.States.{StoreState, StandsForState}
-use Rattle.db_state.specs.Effects.{Effect, Refused, state_by, reply_by, is_done}
+use Rattle.db_state.specs.Effects.{Effect, OnlyLooks, Refused, state_by, reply_by, is_done}
 use Rattle.db_state.specs.Room.{room}
 use Rattle.db_engine.specs.Steps.{effect, may_fill, effect_of, is_utf8_text, read_bytes, statement_step, rest_of, rest_step}
 use Rattle.db_engine.specs.Runs.{Answer, Step, NoMemory, Full, statement, rest_piece, answered, can_fill, IsAllowed}
@@ -35,11 +35,11 @@ use Rattle.db_console.proofs.Answering.{moves_not, moves_short, replied_by, halt
 -- ---- what was read
 
 -- its step, which keeps the state, with nothing to do
-reply_still : (m : StoreState) (r : Read) (c : Content) (k : KeeperView) (reply : List ℕ) → k.ready → IsDurable k → k.content ≡ Some c → StandsForState c m → state_by m (effect_of m r) ≡ m → reply ≡ reply_by (effect_of m r)
+reply_still : (m : StoreState) (r : Read) (c : Content) (k : KeeperView) (reply : List ℕ) → k.ready → IsDurable k → k.content ≡ Some c → StandsForState c m → OnlyLooks m (effect_of m r) → reply ≡ reply_by (effect_of m r)
     → HasReply m r c k k reply
-reply_still m r c k reply ready settled holds stands same is = record {
+reply_still m r c k reply ready settled holds stands looks is = record {
   answer = Step;
-  moves = moves_not m (effect_of m r) c k ready settled holds (subst (StandsForState c) (sym same) stands);
+  moves = moves_not m (effect_of m r) c k ready settled holds stands looks;
   is = is;
   place = λ e. cc;
   can = λ e. cc;
@@ -49,7 +49,7 @@ reply_blank : (m : StoreState) (r : Read) (c : Content) (k : KeeperView) → k.r
 reply_blank m r c k ready settled holds stands e = reply_still m r c k [] ready settled holds stands (rw e refl) (rw e refl)
 
 reply_no_statement : (m : StoreState) (r : Read) (c : Content) (k : KeeperView) → k.ready → IsDurable k → k.content ≡ Some c → StandsForState c m → r ≡ NoStatement → HasReply m r c k k not_understood
-reply_no_statement m r c k ready settled holds stands e = reply_still m r c k not_understood ready settled holds stands (rw e refl) (rw e refl)
+reply_no_statement m r c k ready settled holds stands e = reply_still m r c k not_understood ready settled holds stands (rw e tt) (rw e refl)
 
 -- for want of memory
 reply_short : (m : StoreState) (r : Read) (c : Content) (k : KeeperView) → k.ready → IsDurable k → k.content ≡ Some c → HasReply m r c k k out_of_memory
@@ -123,17 +123,17 @@ step_text limit m bytes short text = step_within limit m bytes short ∙ ap (eff
 
 module _ (limit : ℕ) (ended : List ℕ) (was : World) (old : KeeperView) (shows : Shows old was) where
   -- it is refused
-  replied_refused : (f : Effect) (bytes : List ℕ) → old.ready → IsDurable old → statement_step limit was.state ended ≡ f → state_by was.state f ≡ was.state → bytes ≡ reply_by f → Replied limit (statement ended) was old old bytes
-  replied_refused f bytes ready settled e same is =
+  replied_refused : (f : Effect) (bytes : List ℕ) → old.ready → IsDurable old → statement_step limit was.state ended ≡ f → OnlyLooks was.state f → bytes ≡ reply_by f → Replied limit (statement ended) was old old bytes
+  replied_refused f bytes ready settled e looks is =
       replied_by limit (statement ended) was old old shows Step bytes
-      (moves_not was.state (statement_step limit was.state ended) was.content old ready settled shows.holds (subst (StandsForState was.content) (sym same ∙ ap (state_by was.state) (sym e)) shows.stands))
+      (moves_not was.state (statement_step limit was.state ended) was.content old ready settled shows.holds shows.stands (subst (OnlyLooks was.state) (sym e) looks))
       tt (is ∙ ap reply_by (sym e))
 
   pub replied_past : old.ready → IsDurable old → limit < length ended → Replied limit (statement ended) was old old statement_too_long
-  replied_past ready settled long = replied_refused (Refused StatementTooLong) statement_too_long ready settled (step_past limit was.state ended long) refl refl
+  replied_past ready settled long = replied_refused (Refused StatementTooLong) statement_too_long ready settled (step_past limit was.state ended long) tt refl
 
   pub replied_no_text : old.ready → IsDurable old → length ended ≤ limit → is_utf8_text ended ≡ false → Replied limit (statement ended) was old old not_understood
-  replied_no_text ready settled short text = replied_refused (Refused NotUnderstood) not_understood ready settled (step_no_text limit was.state ended short text) refl refl
+  replied_no_text ready settled short text = replied_refused (Refused NotUnderstood) not_understood ready settled (step_no_text limit was.state ended short text) tt refl
 
   module _ (new : KeeperView) (short : length ended ≤ limit) (text : is_utf8_text ended ≡ true) where
     same_step : effect_of was.state (read (chars ended)) ≡ statement_step limit was.state ended
@@ -200,21 +200,21 @@ module _ (given : Option (Bor (List ℕ))) (bytes : Bor (List ℕ)) (is : given 
 
 -- ---- the response to a rest
 
-rest_keeps_read : (m : StoreState) (r : Read) → state_by m (rest_of m r) ≡ m
-rest_keeps_read m Blank = refl
-rest_keeps_read m NoStatement = refl
-rest_keeps_read m (Found s) = refl
+rest_read_looks : (m : StoreState) (r : Read) → OnlyLooks m (rest_of m r)
+rest_read_looks m Blank = refl
+rest_read_looks m NoStatement = tt
+rest_read_looks m (Found s) = tt
 
 -- it changes nothing
-rest_keeps : (limit : ℕ) (m : StoreState) (bytes : List ℕ) → state_by m (rest_step limit m bytes) ≡ m
-rest_keeps limit m bytes = by_test (leb (length bytes) limit) refl
+rest_looks : (limit : ℕ) (m : StoreState) (bytes : List ℕ) → OnlyLooks m (rest_step limit m bytes)
+rest_looks limit m bytes = by_test (leb (length bytes) limit) refl
   where
-    by_test : (b : Bool) → leb (length bytes) limit ≡ b → state_by m (rest_step limit m bytes) ≡ m
-    by_test true e = rw e (rest_keeps_read m (read_bytes bytes))
-    by_test false e = rw e refl
+    by_test : (b : Bool) → leb (length bytes) limit ≡ b → OnlyLooks m (rest_step limit m bytes)
+    by_test true e = rw e (rest_read_looks m (read_bytes bytes))
+    by_test false e = rw e tt
 
 pub replied_rest : (limit : ℕ) (rest bytes : List ℕ) (was : World) (k : KeeperView) → k.ready → IsDurable k → bytes ≡ reply_by (rest_step limit was.state rest) → Shows k was → Replied limit (rest_piece rest) was k k bytes
 replied_rest limit rest bytes was k ready settled is shows =
     replied_by limit (rest_piece rest) was k k shows Step bytes
-    (moves_not was.state (rest_step limit was.state rest) was.content k ready settled shows.holds (subst (StandsForState was.content) (sym (rest_keeps limit was.state rest)) shows.stands))
+    (moves_not was.state (rest_step limit was.state rest) was.content k ready settled shows.holds shows.stands (rest_looks limit was.state rest))
     tt is

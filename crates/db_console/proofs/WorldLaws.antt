@@ -16,6 +16,8 @@ use Rattle.st_cut.proofs.Cuts.{cuts_go_on, open_newline}
 use Rattle.db_state.specs.States.{StoreState, StandsForState}
 use Rattle.db_state.specs.laws.Giving.{keeps_itself}
 use Rattle.db_state.specs.Effects.{state_by, reply_by}
+use Rattle.db_state.specs.Entries.{Makes}
+use Rattle.db_state.specs.laws.SamePostings.{same_here}
 use Rattle.db_engine.specs.Steps.{rest_step}
 use Rattle.db_engine.specs.Runs.{Piece, statement, rest_piece, Step, Turn, turn_by, pieces, state_after, transcript, state_after-append, transcript-append, allowed-append, obey-append, AllAllowed, AllObeyLimit, Ran}
 use Rattle.db_console.specs.Looking.{PieceLooks}
@@ -221,13 +223,17 @@ empty_state_by : (limit : ℕ) (m : StoreState) → state_by m (rest_step limit 
 unfolding chars is_utf8 encode
 empty_state_by limit m = rw (zero_within limit) refl
 
+empty_makes : (limit : ℕ) (m : StoreState) (c : Content) → Makes (rest_step limit m []) c c
+unfolding chars is_utf8 encode
+empty_makes limit m c = rw (zero_within limit) (same_here m _)
+
 empty_rest : (limit store : ℕ) (world : World) → StandsForState world.content world.state → Leads limit store world (turn_by (rest_piece []) Step ∷ []) world
 empty_rest limit store world stands = record {
   said = [];
   run = record { state = sym (empty_state_by limit world.state); says = sym (ap (λ (xs : List ℕ). xs ++ []) (empty_reply limit world.state)) };
   told = sym (with_suffix-nil world.said);
   allowed = (tt, tt);
-  limited = (world.content, (subst (StandsForState world.content) (sym (empty_state_by limit world.state)) stands, keeps_itself store world.content), refl);
+  limited = (world.content, (subst (StandsForState world.content) (sym (empty_state_by limit world.state)) stands, keeps_itself store world.content, empty_makes limit world.state world.content), refl);
 }
 
 pub served_last : (limit store : ℕ) (held text : List ℕ) (old new : World) (t u : KeeperView) → first_statement true held ≡ Some (text, []) → StandsForState new.content new.state

@@ -201,7 +201,7 @@ ten_bytes = (
     rest = codes "SEL";
     cut = record { statements = codes "SELEC" ∷ []; cut = (_, refl, (refl, refl)); are = refl };
     content = empty;
-    limited = (empty, (empty_stands, inr (omega arith)), refl);
+    limited = (empty, (empty_stands, inr (omega arith), refl), refl);
     shows = record { said = refl; holds = refl; stands = empty_stands };
     settled = settled_in_memory empty 0 no_counts _ _;
   },
@@ -232,7 +232,7 @@ in_part = record {
   };
   said = codes "E10: statement not understood\nE1";
   content = empty;
-  limited = (empty, (empty_stands, inr (omega arith)), (empty, (empty_stands, inr (omega arith)), refl));
+  limited = (empty, (empty_stands, inr (omega arith), refl), (empty, (empty_stands, inr (omega arith), refl), refl));
   shows = record { said = refl; holds = refl; stands = empty_stands };
   part = record { rest = codes "9: statement too long\n"; is = refl; more = lit< tt };
   prefix = record { rest = codes "E1"; is = refl };

@@ -18,6 +18,7 @@ use Rattle.st_cut.specs.Seen.{Seen, StandsOpen}
 use Rattle.db_looks.specs.laws.Composing.{over_still}
 use Rattle.db_state.specs.States.{StoreState, empty_state, StandsForState}
 use Rattle.db_state.specs.laws.Empty.{empty_stands}
+use Rattle.db_state.specs.laws.SamePostings.{same_here}
 use Rattle.db_engine.specs.Runs.{Piece, statement, rest_piece, Answer, Step, Turn, turn_by, pieces, state_after, transcript, AllAllowed, AllObeyLimit, Ran}
 use Rattle.db_console.specs.Looking.{TurnsLook}
 
@@ -128,7 +129,7 @@ half_a_word k = record {
     run = record { state = refl; says = refl };
     told = refl;
     allowed = (tt, (tt, tt));
-    limited = (empty, (empty_stands, inr (omega arith)), (empty, (empty_stands, inr (omega arith)), refl));
+    limited = (empty, (empty_stands, inr (omega arith), refl), (empty, (empty_stands, inr (omega arith), same_here empty_state _), refl));
   };
   moments = passes_none k.time _;
   commits = (omega arith, omega arith);
@@ -142,7 +143,7 @@ some_text k = record {
   turns = turn_by (statement (codes "EXEC CTX_DOC.POLICY_TOKENS('some text')")) Step ∷ [];
   rest = codes "SELEC;";
   cut = record { statements = codes "EXEC CTX_DOC.POLICY_TOKENS('some text')" ∷ []; cut = (_, refl, (refl, refl)); are = refl };
-  leads = record { said = codes "some|0|4\ntext|5|4\n"; run = record { state = refl; says = refl }; told = refl; allowed = (tt, tt); limited = (empty, (empty_stands, inr (omega arith)), refl) };
+  leads = record { said = codes "some|0|4\ntext|5|4\n"; run = record { state = refl; says = refl }; told = refl; allowed = (tt, tt); limited = (empty, (empty_stands, inr (omega arith), same_here empty_state _), refl) };
   moments = passes_none k.time _;
   commits = (omega arith, omega arith);
   looks = over_still StandsForState _ k;
