@@ -6,7 +6,8 @@ use Rattle.std.specs.List.{AllByRecursion}
 use Rattle.std.specs.FinMap.{entries, find, get-entries}
 use Rattle.std.proofs.lemmas.Cmp.{nat_list_cmp_total}
 use Rattle.std.specs.Prelude.{ℕ, IsTrue, ◌↔◌}
-use Rattle.ct_keep.specs.Pairs.{pairs, VecEntry}
+use Rattle.ct_keep.specs.EntryKeys.{key_bytes}
+use Rattle.ct_keep.specs.Pairs.{pairs, HeldEntry}
 use Rattle.ct_keep.specs.Content.{Content}
 use Rattle.ct_keep.specs.Changes.{HoldsWell, IsWell}
 use Rattle.ct_keep.specs.laws.FoundKeys.{found_listed}
@@ -42,10 +43,10 @@ pub as_much_next : (well : List ℕ → List ℕ → Type 0) (all left : List (L
 as_much_next well all left key value a is = record { onward = λ each. a.onward (is, each); back = λ each. (a.back each).1 }
 
 -- all entries were gone through
-pub all_well : (well : List ℕ → List ℕ → Type 0) (m : Content) (all start rest : List VecEntry) → entries m ≡ pairs all → start ≡ all → AsMuch well (pairs start) (pairs rest) → rest ≡ [] → IsTrue true ↔ HoldsWell well m
-all_well well m all start rest es s a none = (λ t. holds_from_each well m (subst (EachWell well) (ap pairs s ∙ sym es) (a.onward (subst (λ (l : List VecEntry). EachWell well (pairs l)) (sym none) tt))), λ h. refl)
+pub all_well : (well : List ℕ → List ℕ → Type 0) (m : Content) (all start rest : List HeldEntry) → entries m ≡ pairs all → start ≡ all → AsMuch well (pairs start) (pairs rest) → rest ≡ [] → IsTrue true ↔ HoldsWell well m
+all_well well m all start rest es s a none = (λ t. holds_from_each well m (subst (EachWell well) (ap pairs s ∙ sym es) (a.onward (subst (λ (l : List HeldEntry). EachWell well (pairs l)) (sym none) tt))), λ h. refl)
 
 -- one was met that isn't well shaped
-pub not_well : (well : List ℕ → List ℕ → Type 0) (m : Content) (all start rest more : List VecEntry) (e : VecEntry) → entries m ≡ pairs all → start ≡ all → AsMuch well (pairs start) (pairs rest) → rest ≡ e ∷ more
-    → (IsWell well e.0.items e.1.items → ⊥) → IsTrue false ↔ HoldsWell well m
-not_well well m all start rest more e es s a is bad = (λ t. cc, λ h. absurd (bad (subst (λ (l : List VecEntry). EachWell well (pairs l)) is (a.back (subst (EachWell well) (es ∙ ap pairs (sym s)) (each_from_holds well m h)))).0))
+pub not_well : (well : List ℕ → List ℕ → Type 0) (m : Content) (all start rest more : List HeldEntry) (e : HeldEntry) → entries m ≡ pairs all → start ≡ all → AsMuch well (pairs start) (pairs rest) → rest ≡ e ∷ more
+    → (IsWell well (key_bytes e.0) e.1.items → ⊥) → IsTrue false ↔ HoldsWell well m
+not_well well m all start rest more e es s a is bad = (λ t. cc, λ h. absurd (bad (subst (λ (l : List HeldEntry). EachWell well (pairs l)) is (a.back (subst (EachWell well) (es ∙ ap pairs (sym s)) (each_from_holds well m h)))).0))

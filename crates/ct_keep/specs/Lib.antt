@@ -5,6 +5,7 @@ pub mod Handed
 pub mod KeeperViews
 pub mod Tail
 pub mod Looks
+pub mod EntryKeys
 pub mod Pairs
 pub mod Counting
 pub mod CountedPairs

@@ -4,6 +4,7 @@ pub mod FoundKeys
 pub mod Rising
 pub mod Content
 pub mod Changes
+pub mod EntryKeys
 pub mod Pairs
 pub mod Tail
 pub mod Counting

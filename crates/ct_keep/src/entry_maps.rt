@@ -11,6 +11,7 @@ ghost use Rattle.ct_keep.specs.KeeperViews.{AnswersCommit, fault_of};
 ghost use Rattle.ct_keep.specs.InMemory.{NotDisk};
 
 use crate::batches::Change;
+use crate::entry_keys::EntryKey;
 use crate::keepers::{KeepFault, Shape};
 use crate::sorted_entries::SortedEntries;
 use crate::transactions::Transaction;
@@ -69,7 +70,7 @@ impl EntryMap {
         self.held.are_well(alloc, shape)
     }
 
-    /// Whether there is an entry of a key. It takes no memory.
+    /// Whether there is an entry of a key. It needs no memory; where none is left, its cost is the number of entries.
     pub fn has(&self, key: &[u8]) -> bool
         ensures { result ≡ is_some (get self.now key.now) }
     {
@@ -84,10 +85,10 @@ impl EntryMap {
     ) -> Result<Option<(Vec<u8>, Vec<u8>)>, Memory>
         ensures { IfOk result (λ found. option_map (λ e. (e.0.items, e.1.items)) found ≡ first_entry (entries_above key.now self.now)) }
     {
-        let key = Vec::from_slice(alloc, key)?;
+        let key = EntryKey::of(Vec::from_slice(alloc, key)?);
         match self.held.first_after(&key) {
             Some((key, value)) => {
-                let key = Vec::from_slice(alloc, key)?;
+                let key = Vec::from_slice(alloc, key.as_slice())?;
                 Ok(Some((key, Vec::from_slice(alloc, value)?)))
             }
             None => Ok(None),

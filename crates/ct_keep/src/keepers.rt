@@ -68,7 +68,7 @@ pub trait Keeper {
         ensures counts { (view self.new).counts ≡ looked_up key.now (handed result) (view self.old).counts };
 
     /// How many entries stand under an owner: those whose key begins with its prefix and is longer. A keeper keeps these counts
-    /// with its commits, so it costs the logarithm of the number of owners. It takes no memory, and makes no call of a disk.
+    /// with its commits, so it costs the logarithm of the number of owners. It needs no memory, and makes no call of a disk.
     fn count(&self, owner: &[u8]) -> u64
         requires ready { (view self.now).ready }
         requires owner { IsOwner owner.now }

@@ -7,7 +7,9 @@ ghost use Rattle.ct_keep.specs.Content.{entries_above, first_entry};
 ghost use Rattle.ct_keep.specs.Changes.{HoldsWell, IsWell};
 ghost use Rattle.ct_keep.specs.Counting.{count_under, IsOwner};
 ghost use Rattle.ct_keep.specs.Transactions.{staying};
+ghost use Rattle.ct_keep.specs.EntryKeys.{key_bytes};
 
+use crate::entry_keys::{EntryKey, value_of};
 use crate::keepers::Shape;
 use crate::limits::{KEY_LIMIT, VALUE_LIMIT};
 use crate::owner_counts::OwnerCounts;
@@ -21,7 +23,9 @@ use std::ops::Bound;
 /// Entries in the order of their keys' bytes, seen as the content that they are, and how many there are of each owner.
 #[derive(Debug, Drop)]
 pub struct SortedEntries {
-    entries: BTreeMap<Vec<u8>, Vec<u8>>,
+    entries: BTreeMap<EntryKey, Vec<u8>>,
+    /// A key that is looked for. It has room for each of those that are there.
+    sought: EntryKey,
     owner_counts: OwnerCounts,
 }
 
@@ -29,6 +33,7 @@ impl Model for SortedEntries {
     ghost use Rattle.ct_keep.specs.Content.{Content};
     ghost use Rattle.ct_keep.specs.Pairs.{content_code, content_of};
     ghost use Rattle.ct_keep.specs.CountedPairs.{AreCounted};
+    ghost use Rattle.ct_keep.specs.EntryKeys.{key_room};
 
     ghost Value = { Content };
 
@@ -36,7 +41,7 @@ impl Model for SortedEntries {
 
     ghost view = { λ e. content_of e.entries.entries };
 
-    ghost invariant = { λ e. AreCounted e.entries e.owner_counts };
+    ghost invariant = { λ e. AreCounted e.entries (key_room e.sought) e.owner_counts };
 }
 
 /// Whether an entry is within the bounds, and well shaped.
@@ -56,6 +61,7 @@ impl SortedEntries {
     {
         SortedEntries {
             entries: BTreeMap::new(alloc),
+            sought: EntryKey::of(Vec::new(alloc)),
             owner_counts: OwnerCounts::new(alloc),
         }
     }
@@ -73,23 +79,23 @@ impl SortedEntries {
         ensures { IfOk result (λ all. IsTrue all ↔ HoldsWell (H.is_well shape.now) self.now) }
     {
         for (key, value) in &self.entries {
-            if !is_well(alloc, shape, key, value)? {
+            if !is_well(alloc, shape, key.as_slice(), value)? {
                 return Ok(false);
             }
         }
         Ok(true)
     }
 
-    /// The value of a key. Its cost is the logarithm of the number of entries.
+    /// The value of a key. Its cost is the logarithm of the number of entries, and where no memory is left that number.
     pub(crate) fn value_at(&self, key: &[u8]) -> Option<&Vec<u8>>
         ensures { option_map (λ v. v.now.items) result ≡ get self.now key.now }
     {
-        self.entries.get(key)
+        value_of(&self.entries, &self.sought, key)
     }
 
-    /// The entry with the least key that is greater, of a key as it is kept here. Its cost is the logarithm of the number of entries.
-    pub(crate) fn first_after(&self, key: &Vec<u8>) -> Option<(&Vec<u8>, &Vec<u8>)>
-        ensures { option_map (λ e. (e.0.now.items, e.1.now.items)) result ≡ first_entry (entries_above key.now.items self.now) }
+    /// The entry with the least key that is greater. Its cost is the logarithm of the number of entries.
+    pub(crate) fn first_after(&self, key: &EntryKey) -> Option<(&EntryKey, &Vec<u8>)>
+        ensures { option_map (λ e. (key_bytes e.0.now, e.1.now.items)) result ≡ first_entry (entries_above (key_bytes key.now) self.now) }
     {
         self.entries
             .range((Bound::Excluded(key), Bound::Unbounded))
@@ -102,7 +108,10 @@ impl SortedEntries {
         ensures content { self.new ≡ insert self.old key.now value.items }
         ensures before { get self.old key.now ≡ Some result.items }
     {
-        let Some(place) = self.entries.get_mut(key) else {
+        if !self.sought.set(key) {
+            unreachable!()
+        }
+        let Some(place) = self.entries.get_mut(&self.sought) else {
             unreachable!()
         };
         replace(place, value)
@@ -116,11 +125,12 @@ impl SortedEntries {
     {
         // No count is greater than the number of entries, which fits in a usize.
         let _number = self.entries.len();
+        self.sought.make_room(&key)?;
         self.owner_counts.add(alloc, &key)?;
-        match self.entries.insert(key, value) {
+        match self.entries.insert(EntryKey::of(key), value) {
             Ok(_) => Ok(()),
             Err(failed) => {
-                self.owner_counts.remove(&failed.value.0);
+                self.owner_counts.remove(failed.value.0.as_slice());
                 Err(Memory)
             }
         }
@@ -150,7 +160,10 @@ impl SortedEntries {
         ensures content { self.new ≡ remove self.old key.now }
         ensures value { option_map (λ v. v.items) result ≡ get self.old key.now }
     {
-        let value = self.entries.remove(key)?;
+        if !self.sought.set(key) {
+            return None;
+        }
+        let value = self.entries.remove(&self.sought)?;
         self.owner_counts.remove(key);
         Some(value)
     }
@@ -161,10 +174,11 @@ impl SortedEntries {
     {
         let SortedEntries {
             entries,
+            sought: _,
             owner_counts: _,
         } = gone;
         for (key, _) in entries {
-            let _ = self.take(&key);
+            let _ = self.take(key.as_slice());
         }
     }
 }

@@ -1,8 +1,7 @@
 -- Laws of counts in memory: against the map in memory, and of one entry more or less.
-use Rattle.std.specs.Prelude.{◌≡◌, ℕ, ◌+◌, ◌-◌, Bool, true, false, List, Option, Some, None, is_some, unwrap_or, Vec, refl}
+use Rattle.std.specs.Prelude.{◌≡◌, ℕ, ◌+◌, ◌-◌, Bool, true, false, List, Option, Some, None, is_some, unwrap_or, refl}
 use Rattle.std.proofs.Common.{[], cond, sym, ap, ◌∙◌, arith}
 use Rattle.std.specs.Option.{option_map}
-use Rattle.std.specs.declared.alloc.Global.{Global}
 use Rattle.std.specs.Ordering.{nat_cmp}
 use Rattle.std.specs.Cmp.Lexicographic.{slice_cmp}
 use Rattle.std.specs.List.Sorted.{IsStrictlySortedBy}
@@ -12,28 +11,29 @@ use Rattle.std.specs.FinMap.{get, insert, empty, get-insert}
 use Rattle.std.proofs.lemmas.Cmp.{nat_list_cmp_total}
 use Rattle.std.proofs.lemmas.Map.Lookups.{exact_bytes}
 use Rattle.ct_base.specs.laws.SortedMaps.{seen-none, seen-insert, seen-set_value, lookup-seen}
-use Rattle.ct_keep.specs.Pairs.{byte_order}
+use Rattle.ct_keep.specs.declared.entry_keys.EntryKey.{EntryKey}
+use Rattle.ct_keep.specs.EntryKeys.{key_bytes, entry_key_order}
 use Rattle.ct_keep.specs.laws.Content.{same, same_keys}
 use Rattle.ct_keep.specs.Counting.{PrefixCounts, prefix_count, owner_prefix, owner_count, CountsMore, CountsLess}
-use Rattle.ct_keep.specs.CountedPairs.{CountEntry, items, as_count, counts_of}
+use Rattle.ct_keep.specs.CountedPairs.{CountEntry, as_count, counts_of}
 
 pub counts_of-none : counts_of [] ≡ empty
-counts_of-none = seen-none (slice_cmp nat_cmp) items as_count
+counts_of-none = seen-none (slice_cmp nat_cmp) key_bytes as_count
 
 same_number : (o : Option ℕ) → option_map as_count o ≡ o
 same_number None = refl
 same_number (Some n) = refl
 
-pub get-counts_of : (es : List CountEntry) (p : List ℕ) → IsStrictlySortedBy byte_order (keys_of es) → lookup (is_at (λ x. slice_cmp nat_cmp p x.items)) es ≡ get (counts_of es) p
-get-counts_of es p s = sym (same_number (lookup (is_at (λ (x : Vec ℕ Global). slice_cmp nat_cmp p x.items)) es)) ∙ lookup-seen (slice_cmp nat_cmp) items as_count es p s
+pub get-counts_of : (es : List CountEntry) (p : List ℕ) → IsStrictlySortedBy entry_key_order (keys_of es) → lookup (is_at (λ x. slice_cmp nat_cmp p (key_bytes x))) es ≡ get (counts_of es) p
+get-counts_of es p s = sym (same_number (lookup (is_at (λ (x : EntryKey). slice_cmp nat_cmp p (key_bytes x))) es)) ∙ lookup-seen (slice_cmp nat_cmp) key_bytes as_count es p s
 
-pub counts_of-insert : (old new : List CountEntry) (k : Vec ℕ Global) (n : ℕ) → IsStrictlySortedBy byte_order (keys_of old) → IsStrictlySortedBy byte_order (keys_of new) → new ≡ insert_entry byte_order old k n
-    → counts_of new ≡ insert (counts_of old) k.items n
-counts_of-insert old new k n s t is = seen-insert (slice_cmp nat_cmp) items as_count nat_list_cmp_total old new k n s t is
+pub counts_of-insert : (old new : List CountEntry) (k : EntryKey) (n : ℕ) → IsStrictlySortedBy entry_key_order (keys_of old) → IsStrictlySortedBy entry_key_order (keys_of new) → new ≡ insert_entry entry_key_order old k n
+    → counts_of new ≡ insert (counts_of old) (key_bytes k) n
+counts_of-insert old new k n s t is = seen-insert (slice_cmp nat_cmp) key_bytes as_count nat_list_cmp_total old new k n s t is
 
-pub counts_of-set_value : (old new : List CountEntry) (p : List ℕ) (n : ℕ) → IsStrictlySortedBy byte_order (keys_of old) → IsStrictlySortedBy byte_order (keys_of new) → is_some (get (counts_of old) p) ≡ true → new ≡ set_value (is_at (λ x. slice_cmp nat_cmp p x.items)) old n
+pub counts_of-set_value : (old new : List CountEntry) (p : List ℕ) (n : ℕ) → IsStrictlySortedBy entry_key_order (keys_of old) → IsStrictlySortedBy entry_key_order (keys_of new) → is_some (get (counts_of old) p) ≡ true → new ≡ set_value (is_at (λ x. slice_cmp nat_cmp p (key_bytes x))) old n
     → counts_of new ≡ insert (counts_of old) p n
-counts_of-set_value old new p n s t there is = seen-set_value (slice_cmp nat_cmp) items as_count nat_list_cmp_total exact_bytes old new p n s t there is
+counts_of-set_value old new p n s t there is = seen-set_value (slice_cmp nat_cmp) key_bytes as_count nat_list_cmp_total exact_bytes old new p n s t there is
 
 -- ---- one entry more or less
 

@@ -13,7 +13,9 @@ use Rattle.std.specs.FinMap.{get, insert, remove, entries, empty}
 use Rattle.std.proofs.lemmas.Cmp.{nat_list_cmp_total}
 use Rattle.std.proofs.lemmas.Map.Lookups.{exact_bytes}
 use Rattle.ct_base.specs.laws.SortedMaps.{entries-seen, seen-none, seen-insert, lookup-seen, seen-remove, seen-set_value}
-use Rattle.ct_keep.specs.Pairs.{VecEntry, byte_order, pairs, content_of}
+use Rattle.ct_keep.specs.declared.entry_keys.EntryKey.{EntryKey}
+use Rattle.ct_keep.specs.EntryKeys.{key_bytes, entry_key_order}
+use Rattle.ct_keep.specs.Pairs.{HeldEntry, pairs, content_of}
 
 abbrev items : Vec ℕ Global → List ℕ
 items v = v.items
@@ -21,23 +23,23 @@ items v = v.items
 abbrev bytes_order : List ℕ → List ℕ → Ordering
 bytes_order = slice_cmp nat_cmp
 
-pub entries-content_of : (es : List VecEntry) → IsStrictlySortedBy byte_order (keys_of es) → entries (content_of es) ≡ pairs es
-entries-content_of es s = entries-seen bytes_order items items es s
+pub entries-content_of : (es : List HeldEntry) → IsStrictlySortedBy entry_key_order (keys_of es) → entries (content_of es) ≡ pairs es
+entries-content_of es s = entries-seen bytes_order key_bytes items es s
 
 pub content_of-none : content_of [] ≡ empty
-content_of-none = seen-none bytes_order items items
+content_of-none = seen-none bytes_order key_bytes items
 
-pub content_of-insert : (old new : List VecEntry) (k v : Vec ℕ Global) → IsStrictlySortedBy byte_order (keys_of old) → IsStrictlySortedBy byte_order (keys_of new) → new ≡ insert_entry byte_order old k v
-    → content_of new ≡ insert (content_of old) k.items v.items
-content_of-insert old new k v s t is = seen-insert bytes_order items items nat_list_cmp_total old new k v s t is
+pub content_of-insert : (old new : List HeldEntry) (k : EntryKey) (v : Vec ℕ Global) → IsStrictlySortedBy entry_key_order (keys_of old) → IsStrictlySortedBy entry_key_order (keys_of new) → new ≡ insert_entry entry_key_order old k v
+    → content_of new ≡ insert (content_of old) (key_bytes k) v.items
+content_of-insert old new k v s t is = seen-insert bytes_order key_bytes items nat_list_cmp_total old new k v s t is
 
-pub get-lookup : (es : List VecEntry) (k : List ℕ) → IsStrictlySortedBy byte_order (keys_of es) → option_map (λ v. v.items) (lookup (is_at (λ x. slice_cmp nat_cmp k x.items)) es) ≡ get (content_of es) k
-get-lookup es k s = lookup-seen bytes_order items items es k s
+pub get-lookup : (es : List HeldEntry) (k : List ℕ) → IsStrictlySortedBy entry_key_order (keys_of es) → option_map (λ v. v.items) (lookup (is_at (λ x. slice_cmp nat_cmp k (key_bytes x))) es) ≡ get (content_of es) k
+get-lookup es k s = lookup-seen bytes_order key_bytes items es k s
 
-pub content_of-remove : (old new : List VecEntry) (k : List ℕ) → IsStrictlySortedBy byte_order (keys_of old) → IsStrictlySortedBy byte_order (keys_of new) → new ≡ remove_entry (is_at (λ x. slice_cmp nat_cmp k x.items)) old
+pub content_of-remove : (old new : List HeldEntry) (k : List ℕ) → IsStrictlySortedBy entry_key_order (keys_of old) → IsStrictlySortedBy entry_key_order (keys_of new) → new ≡ remove_entry (is_at (λ x. slice_cmp nat_cmp k (key_bytes x))) old
     → content_of new ≡ remove (content_of old) k
-content_of-remove old new k s t is = seen-remove bytes_order items items nat_list_cmp_total exact_bytes old new k s t is
+content_of-remove old new k s t is = seen-remove bytes_order key_bytes items nat_list_cmp_total exact_bytes old new k s t is
 
-pub content_of-set_value : (old new : List VecEntry) (k : List ℕ) (v : Vec ℕ Global) → IsStrictlySortedBy byte_order (keys_of old) → IsStrictlySortedBy byte_order (keys_of new) → is_some (get (content_of old) k) ≡ true → new ≡ set_value (is_at (λ x. slice_cmp nat_cmp k x.items)) old v
+pub content_of-set_value : (old new : List HeldEntry) (k : List ℕ) (v : Vec ℕ Global) → IsStrictlySortedBy entry_key_order (keys_of old) → IsStrictlySortedBy entry_key_order (keys_of new) → is_some (get (content_of old) k) ≡ true → new ≡ set_value (is_at (λ x. slice_cmp nat_cmp k (key_bytes x))) old v
     → content_of new ≡ insert (content_of old) k v.items
-content_of-set_value old new k v s t there is = seen-set_value bytes_order items items nat_list_cmp_total exact_bytes old new k v s t there is
+content_of-set_value old new k v s t there is = seen-set_value bytes_order key_bytes items nat_list_cmp_total exact_bytes old new k v s t there is

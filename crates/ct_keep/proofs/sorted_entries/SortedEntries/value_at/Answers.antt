@@ -8,5 +8,5 @@ use Rattle.ct_keep.proofs.SortedPairs.{copied_items}
 use Rattle.ct_keep.proofs.sorted_entries.SortedEntries.value_at.Goals as goal
 
 pub returns : goal.returns
-returns c = copied_items c.get.result ∙ ap (λ (o : Option (Vec ℕ Global)). option_map (λ v. v.items) o) c.get.ensures.value
-    ∙ get-lookup c.self.inside.entries.entries c.args.key.now c.self.invariant.ordered ∙ ap (λ (m : Content). get m c.args.key.now) c.self.view_is
+returns c = copied_items c.value_of.result ∙ ap (λ (o : Option (Vec ℕ Global)). option_map (λ v. v.items) o) c.value_of.ensures
+    ∙ get-lookup c.self.inside.entries.entries c.args.key.now c.self.invariant.keyed.ordered ∙ ap (λ (m : Content). get m c.args.key.now) c.self.view_is
