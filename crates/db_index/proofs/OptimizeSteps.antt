@@ -9,7 +9,7 @@ use Rattle.ix_kinds.specs.Rows.{table_at}
 use Rattle.ix_kinds.specs.Indextypes.{IndexOf}
 use Rattle.ix_kinds.specs.Standing.{IndexStands}
 use Rattle.ix_context.specs.declared.places.Place.{Place}
-use Rattle.ix_context.specs.Contents.{HoldsContext}
+use Rattle.ix_context.specs.Contents.{HoldsContext, target_of}
 use Rattle.ix_context.specs.Contexts.{context}
 use Rattle.ix_context.specs.Indexes.{ContextIndex}
 use Rattle.ix_context.specs.Levels.{Level}
@@ -21,7 +21,6 @@ use Rattle.ix_optimize.specs.declared.levels.Progress.{Progress}
 use Rattle.ix_optimize.specs.laws.Optimised.{index_optimised, optimised_is, optimised_of, optimised_on, optimised_stands}
 use Rattle.ix_optimize.specs.laws.Parts.{rows_of}
 use Rattle.ix_optimize.specs.laws.Places.{resumed_read}
-use Rattle.ix_context.specs.laws.Reading.{target_of}
 use Rattle.ix_indexes.specs.Indexes.{Defined, StandsUnder, as_index}
 use Rattle.db_state.specs.States.{StoreState, StandsForState}
 use Rattle.db_index.specs.Optimizing.{with_optimised}

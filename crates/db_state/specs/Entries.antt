@@ -15,10 +15,9 @@ use Rattle.ct_entry.specs.Changes.{spell}
 use Rattle.ix_kinds.specs.Rows.{table_at}
 use Rattle.ix_kinds.specs.Indextypes.{IndexOf, with_body}
 use Rattle.ix_kinds.specs.Statements.{place_of}
-use Rattle.ix_context.specs.Contents.{HoldsContext}
+use Rattle.ix_context.specs.Contents.{HoldsContext, target_of}
 use Rattle.ix_context.specs.Indexes.{ContextIndex}
 use Rattle.ix_context.specs.Levels.{Level, Full}
-use Rattle.ix_context.specs.laws.Reading.{target_of}
 use Rattle.ix_repack.specs.Repacking.{IndexRows, HasIndexRows}
 use Rattle.ix_optimize.specs.Optimising.{optimise_changes, resumed}
 use Rattle.ix_indexes.specs.Indexes.{Body, Index, kinds}

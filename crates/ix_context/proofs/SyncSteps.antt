@@ -20,14 +20,14 @@ use Rattle.ix_context.specs.declared.entries.IndexEntry.{IndexEntry}
 use Rattle.ix_context.specs.Indexes.{Part, ContextIndex, no_part, part_with_marks, waiting_rows, texts_in, rows_within, target_text}
 use Rattle.ix_rows.specs.Stores.{Tidiness, Untidy}
 use Rattle.ix_context.specs.Places.{place_bytes, no_place}
-use Rattle.ix_context.specs.Contents.{HoldsContext}
+use Rattle.ix_context.specs.Contents.{HoldsContext, target_of}
 use Rattle.ix_context.specs.Spelling.{SpellsIndex, index_change}
 use Rattle.ix_context.specs.Documents.{postings_by}
 use Rattle.ix_context.specs.Changes.{mark_each_changes, settle_each_changes, postings_changes, settled_changes, AreSettleChanges}
 use Rattle.ix_context.specs.Contexts.{context_synced, context_sync_changes, new_context, context_create_changes}
 use Rattle.ix_context.specs.Sees.{AreSyncChanges}
 use Rattle.ix_context.specs.laws.Bodies.{given-with_marks}
-use Rattle.ix_context.specs.laws.Reading.{IsReadAs, target_of, index_read}
+use Rattle.ix_context.specs.laws.Reading.{IsReadAs, index_read}
 
 abbrev Changes : Type 0
 Changes = List (List ℕ × Option (List ℕ))

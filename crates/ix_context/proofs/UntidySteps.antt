@@ -18,10 +18,10 @@ use Rattle.ix_context.specs.Indexes.{ContextIndex}
 use Rattle.ix_context.specs.Places.{is_tidy, tidiness_of, place_bytes, end_bytes}
 use Rattle.ix_context.specs.Spelling.{with_end, after_table, index_change, SpellsIndex}
 use Rattle.ix_context.specs.Contexts.{context, context_entry, context_untidied}
-use Rattle.ix_context.specs.Contents.{HasContextEntry}
+use Rattle.ix_context.specs.Contents.{HasContextEntry, target_of}
 use Rattle.ix_context.specs.Untidying.{AddsAsLong}
 use Rattle.ix_context.specs.laws.ContextRows.{entry_is, has_entry}
-use Rattle.ix_context.specs.laws.Reading.{IsReadAs, target_of}
+use Rattle.ix_context.specs.laws.Reading.{IsReadAs}
 
 abbrev Changes : Type 0
 Changes = List (List ℕ × Option (List ℕ))

@@ -7,6 +7,7 @@ use Rattle.ct_bytes.specs.Varints.{varint}
 use Rattle.ct_keep.specs.Content.{Content}
 use Rattle.ct_entry.specs.declared.kinds.Kind.TheVariants as kind
 use Rattle.ct_entry.specs.Keys.{Key, key, at, HasKeysOnly}
+use Rattle.tb_table.specs.declared.columns.Target.{Target}
 use Rattle.tb_table.specs.Tables.{Table, Tables, docs_columns, docs_table}
 use Rattle.tb_table.specs.Spelling.{columns_bytes, TablesStand}
 use Rattle.tb_table.specs.Rules.{AreTables}
@@ -17,6 +18,10 @@ use Rattle.ix_kinds.specs.Indextypes.{IndexOf}
 use Rattle.ix_context.specs.Indexes.{ContextIndex}
 use Rattle.ix_context.specs.Places.{IsPlace}
 use Rattle.ix_context.specs.Contexts.{IsContext, context_entry, context_stands}
+
+-- the table and the column of an index
+abbrev pub target_of : IndexOf ContextIndex → Target
+target_of x = record { table = x.table; column = x.column }
 
 -- The content spells the tables, which keep their rules.
 pub record HoldsTables (m : Content) (ts : Tables) : Type 0 where

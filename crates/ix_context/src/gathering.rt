@@ -1,8 +1,7 @@
 //! Gathering the postings of rows that become documents.
 #![tactic(auto, using(ct_keep::specs::laws::Composing::reads_on, ct_keep::specs::laws::Composing::reads_short))]
 
-ghost use Rattle.std.specs.Prelude.{◌≡◌, ◌+◌, ◌<◌, ◌^◌, [], All, IfOk, OnOk, length, true};
-ghost use Rattle.std.specs.Bool.{OnTrue};
+ghost use Rattle.std.specs.Prelude.{◌≡◌, ◌+◌, ◌<◌, ◌^◌, [], All, IfOk, OnOk, IsTrue, IsFalse, length, true};
 ghost use Rattle.ct_keep.specs.KeeperViews.{OnlyReads};
 ghost use Rattle.ix_posting.specs.Forms.{counted_bytes, number_form, pair_form};
 ghost use Rattle.ix_rows.specs.WordRows.{word_term};
@@ -105,7 +104,8 @@ impl TermRun {
 
     /// Whether it is one of this term.
     fn is_of(&self, is_section: bool, term: &[u8]) -> bool
-        ensures { OnTrue result ((self.now.is_section ≡ is_section) × (self.now.term.items ≡ term.now)) }
+        ensures yes { IsTrue result → (self.now.is_section ≡ is_section) × (self.now.term.items ≡ term.now) }
+        ensures no { IsFalse result → self.now.is_section ≡ is_section → self.now.term.items ≡ term.now → ⊥ }
     {
         self.is_section == is_section && self.term.as_slice() == term
     }

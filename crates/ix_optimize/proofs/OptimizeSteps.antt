@@ -21,10 +21,10 @@ use Rattle.ix_context.specs.declared.entries.IndexEntry.{IndexEntry}
 use Rattle.ix_context.specs.declared.places.Place.{Place}
 use Rattle.ix_context.specs.Indexes.{ContextIndex}
 use Rattle.ix_context.specs.Places.{IsPlace, tidiness_of, place_bytes}
-use Rattle.ix_context.specs.Contents.{HoldsContext}
+use Rattle.ix_context.specs.Contents.{HoldsContext, target_of}
 use Rattle.ix_context.specs.Spelling.{index_change, SpellsIndex}
 use Rattle.ix_context.specs.Levels.{Level, FullUpTo}
-use Rattle.ix_context.specs.laws.Reading.{target_of, IsReadAs, index_read, no_index_read}
+use Rattle.ix_context.specs.laws.Reading.{IsReadAs, index_read, no_index_read}
 use Rattle.ix_optimize.specs.declared.levels.Progress.{Progress}
 use Rattle.ix_optimize.specs.declared.levels.Progress.TheVariants.{Done, More}
 use Rattle.ix_optimize.specs.Optimising.{rows_renewed, optimise_changes, IsOptimised, OptimisesEntry, OptimisesIndex, resumed, term_at, place_behind, place_left, progress_after}

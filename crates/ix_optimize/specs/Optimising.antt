@@ -25,8 +25,7 @@ use Rattle.ix_context.specs.Places.{IsPlace, AtStart, BehindWord, BehindSection,
 use Rattle.ix_context.specs.Spelling.{index_change}
 use Rattle.ix_context.specs.declared.entries.IndexEntry.{IndexEntry}
 use Rattle.ix_context.specs.Indexes.{ContextIndex}
-use Rattle.ix_context.specs.Contents.{HoldsContext}
-use Rattle.ix_context.specs.laws.Reading.{target_of}
+use Rattle.ix_context.specs.Contents.{HoldsContext, target_of}
 use Rattle.ix_context.specs.Levels.{Level, Fast, Full, FullUpTo, made_packed}
 use Rattle.ix_optimize.specs.declared.levels.Level.{Level as AskedLevel}
 use Rattle.ix_optimize.specs.declared.levels.Level.TheVariants as asked

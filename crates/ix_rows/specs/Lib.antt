@@ -5,6 +5,7 @@ pub mod Stores
 pub mod Splits
 pub mod Growing
 pub mod Firsts
+pub mod FirstBytes
 pub mod RowMaps
 pub mod Gathering
 pub mod Coming

@@ -15,3 +15,4 @@ pub mod PlacedRows
 pub mod Puts
 pub mod Rooms
 pub mod Scans
+pub mod FirstBytes

@@ -1,12 +1,10 @@
 -- What noting places one by one comes to.
-use Rattle.std.proofs.Common.{◌≡◌, ℕ, Bool, true, false, cond, List, [], ◌∷◌, ◌++◌, Option, Some, None, Vec, refl, sym, ap, ◌∙◌, append_assoc}
+use Rattle.std.proofs.Common.{◌≡◌, ℕ, Bool, true, false, cond, List, [], ◌∷◌, ◌++◌, Option, Some, None, refl, sym, ap, ◌∙◌, append_assoc}
 use Rattle.std.specs.Prelude.{bytes_eq, flat_map}
-use Rattle.std.specs.Option.{option_map, unwrap_or}
-use Rattle.std.specs.declared.alloc.Global.{Global}
 use Rattle.std.proofs.lemmas.List.{append-nil}
 use Rattle.std.specs.Ordering.{nat_cmp}
 use Rattle.std.specs.Cmp.Lexicographic.{slice_cmp}
-use Rattle.std.specs.FinMap.{get, remove, empty, get-empty, get-insert, get-remove, same_map}
+use Rattle.std.specs.FinMap.{get, empty, get-empty, get-insert, same_map}
 use Rattle.std.proofs.lemmas.Cmp.{nat_list_cmp_total}
 use Rattle.std.proofs.lemmas.Map.Lookups.{exact_bytes}
 use Rattle.std.proofs.lemmas.Map.Text.{is_eq-slice_cmp}
@@ -24,14 +22,8 @@ with_places_twice m (x ∷ xs) ys = with_places_twice (with_place m x.0 x.1) xs 
 
 get-with_place : (m : PlaceMap) (name : List ℕ) (p : Pair) (q : List ℕ) → get (with_place m name p) q ≡ cond (bytes_eq q name) (Some (had (get m name) ++ p ∷ [])) (get m q)
 get-with_place m name p q =
-    get-insert nat_list_cmp_total (remove m name) name (had (get m name) ++ p ∷ []) q
-    ∙ ap (λ (b : Bool). cond b (Some (had (get m name) ++ p ∷ [])) (get (remove m name) q)) (is_eq-slice_cmp q name)
-    ∙ ap (cond (bytes_eq q name) (Some (had (get m name) ++ p ∷ []))) (get-remove nat_list_cmp_total m name q ∙ ap (λ (b : Bool). cond b None (get m q)) (is_eq-slice_cmp q name))
-    ∙ once (bytes_eq q name)
-  where
-    once : (b : Bool) → cond b (Some (had (get m name) ++ p ∷ [])) (cond b None (get m q)) ≡ cond b (Some (had (get m name) ++ p ∷ [])) (get m q)
-    once true = refl
-    once false = refl
+    get-insert nat_list_cmp_total m name (had (get m name) ++ p ∷ []) q
+    ∙ ap (λ (b : Bool). cond b (Some (had (get m name) ++ p ∷ [])) (get m q)) (is_eq-slice_cmp q name)
 
 -- further places behind those that a name had
 abbrev joined : Option (List Pair) → List Pair → Option (List Pair)
@@ -66,11 +58,6 @@ with_places-place_map xs = same_map nat_list_cmp_total exact_bytes (with_places 
     with_places_at xs empty q
     ∙ ap (λ (o : Option (List Pair)). joined o (places_under q xs)) (get-empty (slice_cmp nat_cmp) q)
     ∙ sym (get-place_map xs q))
-
--- the places that were taken out
-pub had-or_none : (o : Option (Vec Pair Global)) (none : Vec Pair Global) → none.items ≡ [] → (unwrap_or o none).items ≡ had (option_map (λ v. v.items) o)
-had-or_none None none is = is
-had-or_none (Some v) none is = refl
 
 with_words_places : (m : PlaceMap) (ws : List WordView) → with_word_places m ws ≡ with_places m (flat_map word_places ws)
 with_words_places m [] = refl

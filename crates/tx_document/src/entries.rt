@@ -2,8 +2,8 @@
 
 ghost use Rattle.std.specs.Prelude.{◌≡◌, ◌∷◌, IfOk, OnOk, map};
 ghost use Rattle.tx_document.specs.Documents.{pair};
-ghost use Rattle.tx_document.specs.Entries.{DocumentPlace, entries, entry_of, section_place, section_stream, word_places};
-ghost use Rattle.tx_document.specs.Places.{with_place, with_places, with_word_places};
+ghost use Rattle.tx_document.specs.Entries.{DocumentPlace, entries, section_place, word_places};
+ghost use Rattle.tx_document.specs.Places.{with_places, with_word_places};
 
 use crate::places::Places;
 use crate::views::{DocView, SectionView, WordView};
@@ -28,7 +28,7 @@ pub struct Entry {
 
 impl DocView {
     /// One entry for each key in each stream, and for each section, in the order of stream and token. Its cost is the
-    /// number of places times the logarithm of the number of entries.
+    /// number of places times the logarithm of the number of entries; each entry's token is copied once.
     pub fn entries(&self, alloc: Global) -> Result<Vec<Entry>, Memory>
         ensures { IfOk result (λ v. v.items ≡ entries self.now) }
     {
@@ -77,9 +77,13 @@ fn note_streams(
 ) -> Result<(), Memory>
     ensures { OnOk result (places.new ≡ with_places places.old (map {B = DocumentPlace} (λ stream. (stream ∷ key.now, pair position position)) streams.now)) }
 {
+    let place = Pair {
+        first: position,
+        last: position,
+    };
     let mut rest = streams;
     while let [stream, later @ ..] = rest {
-        note(alloc, places, *stream, key, position, position)?;
+        places.note(alloc, *stream, key, place)?;
         rest = later;
     }
     Ok(())
@@ -91,47 +95,17 @@ fn note_sections(alloc: Global, places: &mut Places, sections: &[SectionView]) -
 {
     let mut rest = sections;
     while let [section, later @ ..] = rest {
-        note(
+        let place = Pair {
+            first: section.first,
+            last: section.last,
+        };
+        places.note(
             alloc,
-            places,
             SECTION_STREAM,
             section.section.as_str().as_bytes(),
-            section.first,
-            section.last,
+            place,
         )?;
         rest = later;
     }
     Ok(())
-}
-
-/// Notes that a token stands in a stream from the first position to the last.
-fn note(
-    alloc: Global,
-    places: &mut Places,
-    stream: u8,
-    token: &[u8],
-    first: u32,
-    last: u32,
-) -> Result<(), Memory>
-    ensures { OnOk result (places.new ≡ with_place places.old (stream ∷ token.now) (pair first last)) }
-{
-    let mut name = Vec::new(alloc);
-    name.push(stream)?;
-    name.extend_from_slice(token)?;
-    places.note(alloc, name, Pair { first, last })
-}
-
-/// The entry of a name, which is a stream and a token.
-pub(crate) fn entry_of(alloc: Global, name: &[u8], places: Pairs) -> Result<Entry, Memory>
-    ensures { IfOk result (λ e. e ≡ entry_of (name.now, places)) }
-{
-    let (stream, token) = match name {
-        [] => (0, name),
-        [stream, token @ ..] => (*stream, token),
-    };
-    Ok(Entry {
-        stream,
-        token: Key::of(Vec::from_slice(alloc, token)?),
-        places,
-    })
 }

@@ -9,6 +9,7 @@ mod fields;
 mod instances;
 mod laws;
 mod ordering;
+mod place_names;
 mod places;
 mod ranges;
 mod views;

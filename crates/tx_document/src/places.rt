@@ -1,12 +1,13 @@
 //! Where names stand.
 
-ghost use Rattle.std.specs.Prelude.{◌≡◌, IfOk, OnOk, map};
-ghost use Rattle.std.specs.FinMap.{empty, entries, get, insert, remove};
+ghost use Rattle.std.specs.Prelude.{◌≡◌, ◌∷◌, ◌++◌, [], IfOk, OnOk, map};
+ghost use Rattle.std.specs.FinMap.{empty, entries};
 ghost use Rattle.tx_document.specs.Entries.{entry_of};
-ghost use Rattle.tx_document.specs.Places.{had, with_place};
+ghost use Rattle.tx_document.specs.Places.{with_place};
 
-use crate::entries::{Entry, entry_of};
-use ct_base::{Memory, Pair, Pairs};
+use crate::entries::Entry;
+use crate::place_names::PlaceName;
+use ct_base::{Memory, Pair};
 use std::alloc::Global;
 use std::collections::BTreeMap;
 use std::marker::Model;
@@ -14,12 +15,16 @@ use std::marker::Model;
 /// The places of names, seen as a finite map in the order of the names' bytes.
 #[derive(Drop)]
 pub(crate) struct Places {
-    entries: BTreeMap<Vec<u8>, Vec<Pair>>,
+    entries: BTreeMap<PlaceName, Vec<Pair>>,
+    /// The name that is looked up, in memory that is used again for each.
+    sought: PlaceName,
 }
 
 impl Model for Places {
     ghost use Rattle.std.specs.BTreeMap.{IsOrdered};
-    ghost use Rattle.tx_document.specs.Places.{PlaceMap, map_of, name_order, place_map_code};
+    ghost use Rattle.std.specs.Ordering.{nat_cmp};
+    ghost use Rattle.std.specs.Cmp.Lexicographic.{slice_cmp};
+    ghost use Rattle.tx_document.specs.Places.{PlaceMap, map_of, place_map_code};
 
     ghost Value = { PlaceMap };
 
@@ -27,7 +32,7 @@ impl Model for Places {
 
     ghost view = { λ p. map_of p.entries.entries };
 
-    ghost invariant = { λ p. IsOrdered name_order p.entries };
+    ghost invariant = { λ p. IsOrdered (slice_cmp nat_cmp) p.entries };
 }
 
 impl Places {
@@ -37,42 +42,58 @@ impl Places {
     {
         Places {
             entries: BTreeMap::new(alloc),
+            sought: PlaceName::new(alloc),
         }
     }
 
-    /// Takes the places of a name out; none where it has none.
-    fn take(&mut self, alloc: Global, name: &[u8]) -> Vec<Pair>
-        ensures rest { self.new ≡ remove self.old name.now }
-        ensures places { result.items ≡ had (get self.old name.now) }
+    /// Notes a further place of a token in a stream. It looks the name up once, at the cost of the logarithm of the number of
+    /// names, and copies the token only where the name is new.
+    pub(crate) fn note(
+        &mut self,
+        alloc: Global,
+        stream: u8,
+        token: &[u8],
+        place: Pair,
+    ) -> Result<(), Memory>
+        ensures { OnOk result (self.new ≡ with_place self.old (stream ∷ token.now) place) }
     {
-        self.entries.remove(name).unwrap_or(Vec::new(alloc))
+        self.sought.set(stream, token)?;
+        match self.entries.get_mut(&self.sought) {
+            Some(places) => add_place(places, place),
+            None => {
+                let places = one_place(alloc, place)?;
+                self.entries
+                    .insert(PlaceName::of(alloc, stream, token)?, places)?;
+                Ok(())
+            }
+        }
     }
 
-    /// Gives a name places.
-    fn put(&mut self, name: Vec<u8>, places: Vec<Pair>) -> Result<(), Memory>
-        ensures { OnOk result (self.new ≡ insert self.old name.items places.items) }
-    {
-        self.entries.insert(name, places)?;
-        Ok(())
-    }
-
-    /// Notes a further place of a name. Its cost is the logarithm of the number of names.
-    pub(crate) fn note(&mut self, alloc: Global, name: Vec<u8>, place: Pair) -> Result<(), Memory>
-        ensures { OnOk result (self.new ≡ with_place self.old name.items place) }
-    {
-        let mut places = self.take(alloc, name.as_slice());
-        places.push(place)?;
-        self.put(name, places)
-    }
-
-    /// The names with their places, in the order of the names' bytes.
+    /// The entries of the names, in the order of the names' bytes, without a copy.
     pub(crate) fn into_entries(self, alloc: Global) -> Result<Vec<Entry>, Memory>
         ensures { IfOk result (λ v. v.items ≡ map entry_of (entries self)) }
     {
         let mut list = Vec::new(alloc);
         for (name, places) in self.entries {
-            list.push(entry_of(alloc, name.as_slice(), Pairs::of(places))?)?;
+            list.push(name.into_entry(places))?;
         }
         Ok(list)
     }
+}
+
+/// A place behind others.
+fn add_place(others: &mut Vec<Pair>, place: Pair) -> Result<(), Memory>
+    ensures { OnOk result (others.new.items ≡ others.old.items ++ place ∷ []) }
+{
+    others.push(place)?;
+    Ok(())
+}
+
+/// One place alone.
+fn one_place(alloc: Global, place: Pair) -> Result<Vec<Pair>, Memory>
+    ensures { IfOk result (λ places. places.items ≡ place ∷ []) }
+{
+    let mut places = Vec::new(alloc);
+    places.push(place)?;
+    Ok(places)
 }

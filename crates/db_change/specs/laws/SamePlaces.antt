@@ -1,8 +1,7 @@
 -- Where rows of a table are lost, the entries of the indexes end in the places in which they ended before.
-use Rattle.std.proofs.Common.{◌≡◌, ℕ, ℤ, ◌+◌, Bool, true, false, cond, List, [], ◌∷◌, ◌++◌, length, Option, Some, refl, sym, ap, ◌∙◌, arith, append_assoc, append-nil, length-append, inl, inr}
-use Rattle.std.specs.Prelude.{◌&&◌, drop}
+use Rattle.std.proofs.Common.{◌≡◌, ℕ, ℤ, ◌+◌, Bool, true, false, cond, List, [], ◌∷◌, ◌++◌, length, Option, Some, refl, sym, ap, ◌∙◌, arith, length-append, inl, inr}
+use Rattle.std.specs.Prelude.{◌&&◌}
 use Rattle.std.specs.FinMap.{get}
-use Rattle.std.proofs.Math.Seq.{drop-append_seam}
 use Rattle.ct_base.specs.laws.Options.{option_map_some}
 use Rattle.ct_keep.specs.Content.{Content}
 use Rattle.ct_entry.specs.declared.kinds.Kind.{Kind}
@@ -20,7 +19,7 @@ use Rattle.ix_kinds.specs.Indextypes.{untidied_index, with_body}
 use Rattle.ix_kinds.specs.Standing.{is_entry}
 use Rattle.ix_kinds.specs.Statements.{AreIndexesOn, bytes_behind, index_after_row, indexes_after, indexes_after_row, place_of, row_cost, untidying_at, untidying_for, untidying_in}
 use Rattle.ix_kinds.specs.laws.Rows.{get-after_row}
-use Rattle.ix_kinds.specs.laws.Standing.{told_own}
+use Rattle.ix_kinds.specs.laws.Standing.{behind_parts, told_own}
 use Rattle.ix_kinds.specs.laws.Untidies.{untidying_on}
 use Rattle.ix_context.specs.Contexts.{context_after}
 use Rattle.ix_context.specs.laws.ContextUntidies.{rest_long}
@@ -77,11 +76,6 @@ module _ (test : Index → Bool) (step : Tables → ℤ → Tables) (t : List �
       one : (c : RowChange) (x : Index) (b : Bool) → width (cond b (index_after_row kinds c i x) x) ≡ width x
       one c x true = row_width c i x
       one c x false = refl
-
--- what stands behind two parts
-behind_parts : (a b p : List ℕ) → drop (length (a ++ (b ++ []))) (a ++ (b ++ p)) ≡ p
-behind_parts a b p =
-    ap (λ (l : List ℕ). drop (length (a ++ l)) (a ++ (b ++ p))) (append-nil b) ∙ ap (drop (length (a ++ b))) (sym (append_assoc a b p)) ∙ drop-append_seam (a ++ b) p
 
 -- ---- what is put before
 

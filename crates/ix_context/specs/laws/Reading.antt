@@ -36,7 +36,7 @@ use Rattle.ix_context.specs.Indexes.{ContextIndex, in_queue, waiting_rows, targe
 use Rattle.ix_rows.specs.Stores.{Tidiness}
 use Rattle.ix_context.specs.Places.{IsPlaceRead, tidiness_byte, tidiness_of, place_bytes, end_bytes}
 use Rattle.ix_context.specs.Spelling.{index_bytes, after_table, SpellsIndex}
-use Rattle.ix_context.specs.Contents.{HoldsTables, HoldsContext}
+use Rattle.ix_context.specs.Contents.{HoldsTables, HoldsContext, target_of}
 use Rattle.ix_context.specs.laws.Bodies.{tidiness_one}
 use Rattle.ix_context.specs.laws.ContextSyncs.{mark_is_row}
 
@@ -66,9 +66,7 @@ index_bytes_one t u c d p q n k a b v w is are small small' e =
     let ends = cons_parts (tidiness_byte a) (tidiness_byte b) v w end in
     (tables.0, columns.0, prefs.0, four_bytes_one n k small small' next, tidiness_one a b ends.0, ends.1)
 
--- what is read of an index
-abbrev pub target_of : IndexOf ContextIndex → Target
-target_of x = record { table = x.table; column = x.column }
+-- ---- what is read of an index
 
 -- an index is read as its target, its preferences, its next document, how tidy it is, and its place
 pub record IsReadAs (x : IndexOf ContextIndex) (ends : List ℕ) (e : IndexEntry) : Type 0 where

@@ -34,6 +34,7 @@ use Rattle.ix_repack.specs.Repacking.{stays, HasRows, HasIndexRows}
 use Rattle.ix_repack.specs.Walking.{handled_terms, last_term, has_more}
 use Rattle.ix_repack.specs.laws.Handled.{words_of, sections_of, words_in, sections_in, AreTerms, all_are_terms, handled_are_terms, word_handled, section_handled}
 use Rattle.ix_repack.specs.laws.Rows.{words_scanned, sections_scanned, term_stored}
+use Rattle.ix_context.specs.Contents.{target_of}
 use Rattle.ix_context.specs.declared.places.Place.{Place}
 use Rattle.ix_context.specs.Places.{IsPlaceRead, place_bytes}
 use Rattle.ix_context.specs.Indexes.{ContextIndex, Part, mark_limit, texts_in}
@@ -46,7 +47,6 @@ use Rattle.ix_context.specs.laws.Standing.{entry_put, entry_here}
 use Rattle.ix_context.specs.laws.ContextRows.{entry_is, context_alone}
 use Rattle.ix_context.specs.laws.ContextSyncs.{weaker}
 use Rattle.ix_context.specs.laws.Places.{place_read_is}
-use Rattle.ix_context.specs.laws.Reading.{target_of}
 use Rattle.ix_optimize.specs.declared.levels.Progress.TheVariants.{Done, More}
 use Rattle.ix_optimize.specs.Optimising.{keeps_rows_only, term_at, place_behind, place_left, terms_handled, place_after, tidiness_after, rows_renewed, optimise_changes}
 use Rattle.ix_optimize.specs.laws.Places.{term_at_is, place_behind_is}

@@ -1,6 +1,6 @@
 use Rattle.std.proofs.Common.{◌≡◌, ◌++◌, map}
 use Rattle.tx_document.specs.Entries.{entry_of}
-use Rattle.tx_document.specs.Places.{named_places}
+use Rattle.tx_document.proofs.SeenMaps.{named_places}
 use Rattle.tx_document.proofs.places.Places.into_entries.Given as goal
 
 abbrev pub invariant-loop-name : goal.invariant-loop-name
