@@ -9,12 +9,12 @@ use Rattle.ct_site.specs.declared.outside.Failed.{Failed}
 use Rattle.ct_site.specs.Images.{written, Torn}
 use Rattle.ct_site.specs.Pieces.{written_piece, torn_piece, length-written, IsPiece}
 use Rattle.ct_site.specs.Disks.{DiskView, IsSettled, Leaves}
-use Rattle.pg_journal.specs.Pages.{page, homes_in, root_page}
+use Rattle.pg_journal.specs.Pages.{page, homes_in, top_in, root_page}
 use Rattle.ct_base.specs.Zeros.{zeros}
 use Rattle.pg_journal.specs.Recovered.{IsUnborn, IsRecovered, gate, mark, first_pages}
 use Rattle.pg_journal.specs.Births.{born, IsCleared}
 use Rattle.pg_journal.specs.Standing.{IsShut, DiskStands}
-use Rattle.pg_journal.specs.laws.PageRuns.{root_homes, length-root}
+use Rattle.pg_journal.specs.laws.PageRuns.{root_homes, root_top, length-root}
 use Rattle.ct_site.specs.Writing.{Writes}
 use Rattle.ct_site.specs.laws.Writing.{writes_keep}
 use Rattle.ct_site.specs.laws.Ranges.{torn_before}
@@ -27,7 +27,7 @@ length-mark = omega (arith, length-append (codes "CTXSTORE") (zeros 4087), lengt
 
 pub length-born : length born ≡ 12287
 unfolding born
-length-born = omega (arith, length-append mark (zeros 4096 ++ root_page 3), length-append (zeros 4096) (root_page 3), length-replicate {A = ℕ} 4096 0, length-mark, length-root 3)
+length-born = omega (arith, length-append mark (zeros 4096 ++ root_page 3 0), length-append (zeros 4096) (root_page 3 0), length-replicate {A = ℕ} 4096 0, length-mark, length-root 3 0)
 
 -- ---- the bytes
 
@@ -56,13 +56,16 @@ pub head_among : (m : List ℕ) (n : ℕ) → length m ≡ 8 → written 0 m (ze
 head_among m n eight =
     ap (λ (l : List ℕ). written 0 m l) (zeros-add 8 n) ∙ written_piece [] (zeros 8) m (zeros n) 0 refl (eight ∙ sym (length-replicate {A = ℕ} 8 0))
 
-pub root_is : (h : ℕ) (b0 b1 b2 bytes : List ℕ) → b0 ≡ zeros (1 + (3 + (4 + 4088))) → b1 ≡ written 0 (4 ∷ []) b0 → bytes ≡ to_be_bytes w32 h → b2 ≡ written 4 bytes b1 → b2 ≡ root_page h
+pub root_is : (h t : ℕ) (b0 b1 b2 b3 bytes more : List ℕ) → b0 ≡ zeros (1 + (3 + (4 + 4088))) → b1 ≡ written 0 (4 ∷ []) b0 → bytes ≡ to_be_bytes w32 h → b2 ≡ written 4 bytes b1 → more ≡ to_be_bytes w32 t → b3 ≡ written 8 more b2 → b3 ≡ root_page h t
 unfolding root_page
-root_is h b0 b1 b2 bytes is first be second =
+root_is h t b0 b1 b2 b3 bytes more is first be second be_too third =
     let one : b1 ≡ (4 ∷ []) ++ zeros (3 + (4 + 4088)) =
     first ∙ ap (λ (l : List ℕ). written 0 (4 ∷ []) l) (is ∙ zeros-add 1 (3 + (4 + 4088))) ∙ written_piece [] (zeros 1) (4 ∷ []) (zeros (3 + (4 + 4088))) 0 refl refl in
     let two : b1 ≡ (4 ∷ 0 ∷ 0 ∷ 0 ∷ []) ++ (zeros 4 ++ zeros 4088) = one ∙ ap (λ (l : List ℕ). 4 ∷ l) (zeros-add 3 (4 + 4088) ∙ ap (λ (l : List ℕ). zeros 3 ++ l) (zeros-add 4 4088)) in
+    let three : b2 ≡ ((4 ∷ 0 ∷ 0 ∷ 0 ∷ []) ++ to_be_bytes w32 h) ++ (zeros 4 ++ zeros 4084) =
     second ∙ ap (λ (l : List ℕ). written 4 l b1) be ∙ ap (λ (l : List ℕ). written 4 (to_be_bytes w32 h) l) two ∙ written_piece (4 ∷ 0 ∷ 0 ∷ 0 ∷ []) (zeros 4) (to_be_bytes w32 h) (zeros 4088) 4 refl refl
+    ∙ ap (λ (l : List ℕ). 4 ∷ 0 ∷ 0 ∷ 0 ∷ (to_be_bytes w32 h ++ l)) (zeros-add 4 4084) in
+    third ∙ ap (λ (l : List ℕ). written 8 l b2) be_too ∙ ap (λ (l : List ℕ). written 8 (to_be_bytes w32 t) l) three ∙ written_piece ((4 ∷ 0 ∷ 0 ∷ 0 ∷ []) ++ to_be_bytes w32 h) (zeros 4) (to_be_bytes w32 t) (zeros 4084) 8 refl refl
 
 -- ---- a store that was just born, but for its first byte
 
@@ -70,29 +73,30 @@ gate_of_born : (b : ℕ) → gate (b ∷ born) ≡ 0
 unfolding born
 gate_of_born b =
     let e : 4096 ≡ suc 4095 = refl in
-    get_or_at (b ∷ mark) 0 (zeros 4095 ++ root_page 3) 0 4096 (omega (arith, length-mark))
+    get_or_at (b ∷ mark) 0 (zeros 4095 ++ root_page 3 0) 0 4096 (omega (arith, length-mark))
 
-root_of_born : (b : ℕ) → page (b ∷ born) 2 ≡ root_page 3
+root_of_born : (b : ℕ) → page (b ∷ born) 2 ≡ root_page 3 0
 unfolding born
 root_of_born b =
     let prefix : length ((b ∷ mark) ++ zeros 4096) ≡ 8192 = omega (arith, length-append (b ∷ mark) (zeros 4096), length-mark, length-replicate {A = ℕ} 4096 0) in
-    ap (λ (l : List ℕ). take 4096 (drop 8192 l)) (sym (append_assoc (b ∷ mark) (zeros 4096) (root_page 3)))
-    ∙ ap (λ (l : List ℕ). take 4096 l) (drop_at ((b ∷ mark) ++ zeros 4096) (root_page 3) 8192 prefix)
-    ∙ take_all 4096 (root_page 3) (omega (arith, length-root 3))
+    ap (λ (l : List ℕ). take 4096 (drop 8192 l)) (sym (append_assoc (b ∷ mark) (zeros 4096) (root_page 3 0)))
+    ∙ ap (λ (l : List ℕ). take 4096 l) (drop_at ((b ∷ mark) ++ zeros 4096) (root_page 3 0) 8192 prefix)
+    ∙ take_all 4096 (root_page 3 0) (omega (arith, length-root 3 0))
 
 mark_of_born : (b : ℕ) → take 4095 (drop 1 (b ∷ born)) ≡ mark
 unfolding born
-mark_of_born b = take_at mark (zeros 4096 ++ root_page 3) 4095 length-mark
+mark_of_born b = take_at mark (zeros 4096 ++ root_page 3 0) 4095 length-mark
 
 pub born_shut : (b : ℕ) → b ≢ 0 → IsShut 3 first_pages (b ∷ born)
 born_shut b some =
     let root = root_of_born b in
-    let homes : homes_in (page (b ∷ born) 2) ≡ 3 = ap (λ (l : List ℕ). homes_in l) root ∙ root_homes 3 (omega arith) in
+    let top : top_in (page (b ∷ born) 2) ≡ 0 = ap (λ (l : List ℕ). top_in l) root ∙ root_top 3 0 (omega arith) in
+    let homes : homes_in (page (b ∷ born) 2) ≡ 3 = ap (λ (l : List ℕ). homes_in l) root ∙ root_homes 3 0 (omega arith) in
     record {
       store = record { born = (omega (arith, length-born), inl some); mark = mark_of_born b; whole = omega (arith, length-born) };
       closed = record {
         gate = λ is. omega (arith, is, gate_of_born b);
-        root = record { is = root ∙ ap root_page (sym homes); least = omega (arith, homes); most = omega (arith, homes) };
+        root = record { is = root ∙ ap (λ (h : ℕ). root_page h 0) (sym homes) ∙ ap (root_page (homes_in (page (b ∷ born) 2))) (sym top); least = omega (arith, homes); most = omega (arith, homes) };
         inside = omega (arith, homes, length-born);
         are = ap (λ (l : List ℕ). l ∷ []) (sym root) ∙ ap (λ (n : ℕ). Rattle.pg_journal.specs.Pages.pages_from (page (b ∷ born)) 2 (n - 2)) (sym homes);
       };

@@ -7,7 +7,7 @@ use Rattle.pg_journal.specs.Recovered.{mark}
 
 -- those of the three pages of a new store but the first byte
 unfoldable pub born : List ℕ
-born = mark ++ (zeros 4096 ++ root_page 3)
+born = mark ++ (zeros 4096 ++ root_page 3 0)
 
 -- The first byte is 0, and there are no more than three pages.
 pub record IsCleared (image : List ℕ) : Type 0 where

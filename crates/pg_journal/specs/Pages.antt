@@ -46,11 +46,15 @@ AreBetween low end (w ∷ ws) = (low ≤ w.0) × (suc w.0 ≤ end) × (length w.
 abbrev pub homes_in : List ℕ → ℕ
 homes_in root = number_in root 4
 
-unfoldable pub root_page : ℕ → List ℕ
-root_page homes = 4 ∷ 0 ∷ 0 ∷ 0 ∷ (to_be_bytes w32 homes ++ zeros 4088)
+-- the page of the directory of entries at its top, or 0 where there is no directory
+abbrev pub top_in : List ℕ → ℕ
+top_in root = number_in root 8
+
+unfoldable pub root_page : ℕ → ℕ → List ℕ
+root_page homes top = 4 ∷ 0 ∷ 0 ∷ 0 ∷ (to_be_bytes w32 homes ++ (to_be_bytes w32 top ++ zeros 4084))
 
 pub record IsRoot (root : List ℕ) : Type 0 where
-  pub is : root ≡ root_page (homes_in root)
+  pub is : root ≡ root_page (homes_in root) (top_in root)
   pub least : 3 ≤ homes_in root
   pub most : homes_in root ≤ 2 ^ 31
 
@@ -71,16 +75,20 @@ abbrev pub changed : List Numbered → List (List ℕ) → List (List ℕ)
 changed batch pages = homes_of (put_on batch (home pages))
 
 -- ---- computed examples
-root_of_three : homes_in (root_page 3) ≡ 3
+root_of_three : homes_in (root_page 3 0) ≡ 3
 unfolding root_page
 root_of_three = refl
 
+top_of_root : top_in (root_page 5 4) ≡ 4
+unfolding root_page
+top_of_root = refl
+
 -- one page behind the root comes, and then the page 3 alone is changed
-grown : changed ((2, root_page 4) ∷ (3, codes "new") ∷ []) (root_page 3 ∷ []) ≡ root_page 4 ∷ codes "new" ∷ []
+grown : changed ((2, root_page 4 0) ∷ (3, codes "new") ∷ []) (root_page 3 0 ∷ []) ≡ root_page 4 0 ∷ codes "new" ∷ []
 unfolding root_page
 grown = refl
 
-changed_alone : changed ((3, codes "newer") ∷ []) (root_page 4 ∷ codes "new" ∷ []) ≡ root_page 4 ∷ codes "newer" ∷ []
+changed_alone : changed ((3, codes "newer") ∷ []) (root_page 4 0 ∷ codes "new" ∷ []) ≡ root_page 4 0 ∷ codes "newer" ∷ []
 unfolding root_page
 changed_alone = refl
 

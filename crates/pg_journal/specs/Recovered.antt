@@ -89,7 +89,7 @@ pub record IsOpened (image : List ℕ) (pages : List (List ℕ)) : Type 0 where
 
 -- the pages of a store that was just born: a root alone
 abbrev pub first_pages : List (List ℕ)
-first_pages = root_page 3 ∷ []
+first_pages = root_page 3 0 ∷ []
 
 -- An image recovers to these pages. An unborn one has those that birth would give it.
 abbrev pub IsRecovered : List ℕ → List (List ℕ) → Type 0

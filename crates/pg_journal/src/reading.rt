@@ -85,13 +85,14 @@ pub(crate) fn has_mark<D: Disk>(disk: &mut D) -> Result<bool, Failed>
     Ok(bytes == mark_bytes())
 }
 
-/// The bytes of a root with so many homes.
-pub(crate) fn root_bytes(homes: u32) -> [u8; 4096]
-    ensures { result ≡ root_page homes }
+/// The bytes of a root with so many homes, which names this page as the top of the directory, or 0 where there is none.
+pub fn root_bytes(homes: u32, top: u32) -> [u8; 4096]
+    ensures { result ≡ root_page homes top }
 {
     let mut bytes = [0; 4096];
     put_at(&mut bytes, 0, &[4]);
     put_at(&mut bytes, 4, &homes.to_be_bytes());
+    put_at(&mut bytes, 8, &top.to_be_bytes());
     bytes
 }
 
@@ -100,15 +101,16 @@ pub(crate) fn homes_of_root(page: &[u8; 4096]) -> Option<u32>
     ensures root { IsRootOr result page.now }
     ensures bounds { IfSome result (λ homes. (3 ≤ homes) × (homes ≤ 2 ^ 31)) }
 {
-    let [_, _, _, _, a, b, c, d, ..] = *page;
+    let [_, _, _, _, a, b, c, d, e, f, g, h, ..] = *page;
     let homes = u32::from_be_bytes([a, b, c, d]);
+    let top = u32::from_be_bytes([e, f, g, h]);
     if homes < 3 {
         return None;
     }
     if homes > 1 << 31 {
         return None;
     }
-    if *page == root_bytes(homes) {
+    if *page == root_bytes(homes, top) {
         Some(homes)
     } else {
         None

@@ -6,4 +6,3 @@ pub mod Placing
 pub mod SheetReads
 pub mod StringEnds
 pub mod Strings
-pub mod ValueReads

@@ -2,9 +2,7 @@
 use Rattle.std.proofs.Common.{◌≡◌, ◌≤◌, ℕ, ◌-◌, List, ◌∷◌, ◌++◌, length, sym, ap, ◌∙◌, append_assoc}
 use Rattle.std.proofs.lemmas.List.{drop-replicate, drop-drop}
 use Rattle.ct_site.specs.Images.{written}
-use Rattle.pg_journal.specs.Pages.{root_page}
 use Rattle.ct_base.specs.Zeros.{zeros}
-use Rattle.std.specs.Int.{to_be_bytes, w32}
 use Rattle.pg_map.specs.Kinds.{Long, bytes_of_kind}
 use Rattle.pg_map.specs.Sheets.{head_of_long}
 
@@ -17,7 +15,3 @@ long_page next bytes most =
     ap (written 8 bytes) (first_write next (length bytes))
     ∙ ap (λ (l : List ℕ). (head_of_long next (length bytes) ++ bytes) ++ l) (sym (drop-drop (length bytes) 8 (head_of_long next (length bytes) ++ zeros 4088)) ∙ drop-replicate (length bytes) 4088 0)
     ∙ append_assoc (head_of_long next (length bytes)) bytes (zeros (4088 - length bytes))
-
-pub root_written : (homes : ℕ) → written 0 (4 ∷ 0 ∷ 0 ∷ 0 ∷ to_be_bytes w32 homes) (zeros 4096) ≡ root_page homes
-unfolding root_page
-root_written homes = ap (λ (l : List ℕ). 4 ∷ 0 ∷ 0 ∷ 0 ∷ (to_be_bytes w32 homes ++ l)) (drop-replicate 8 4096 0)

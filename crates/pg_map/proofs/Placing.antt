@@ -1,10 +1,9 @@
 -- Places of keys in memory against the finite map that they are, and what undoes their changes.
-use Rattle.std.proofs.Common.{◌≡◌, ℕ, Bool, true, false, cond, List, [], ◌∷◌, ◌++◌, Option, Some, None, Vec, refl, sym, ap, subst, ◌∙◌}
+use Rattle.std.proofs.Common.{◌≡◌, ℕ, Bool, true, false, cond, List, [], ◌∷◌, ◌++◌, Option, Some, None, refl, sym, ap, subst, ◌∙◌}
 use Rattle.std.specs.Prelude.{IsSome, is_some}
 use Rattle.std.specs.Bool.{if◌then◌else◌}
 use Rattle.std.proofs.lemmas.Bool.{false≢true}
 use Rattle.std.specs.Option.{option_map}
-use Rattle.std.specs.declared.alloc.Global.{Global}
 use Rattle.std.specs.Ordering.{nat_cmp}
 use Rattle.std.specs.Cmp.Lexicographic.{slice_cmp}
 use Rattle.std.specs.List.Sorted.{IsStrictlySortedBy}
@@ -13,38 +12,36 @@ use Rattle.std.specs.BTreeMap.{insert_entry, is_at}
 use Rattle.std.specs.FinMap.{get, insert, remove, empty, same_map, get-insert}
 use Rattle.std.proofs.lemmas.Cmp.{nat_list_cmp_total}
 use Rattle.std.proofs.lemmas.Map.Lookups.{exact_bytes}
-use Rattle.ct_keep.specs.Pairs.{byte_order}
+use Rattle.ct_keep.specs.declared.entry_keys.EntryKey.{EntryKey}
+use Rattle.ct_keep.specs.EntryKeys.{key_bytes, entry_key_order}
 use Rattle.ct_base.specs.laws.SortedMaps.{seen-none, seen-insert, seen-remove, lookup-seen}
 use Rattle.ct_keep.specs.laws.Content.{same, same_itself, same_keys}
 use Rattle.pg_map.specs.declared.places.OldPlace.{OldPlace}
 use Rattle.pg_map.specs.Places.{PagePlaces, PlaceChangesState, page_places, undone_places, after_put, ArePlaced, OnlyAddsPlaces}
 
 abbrev KeyPlace : Type 0
-KeyPlace = Vec ℕ Global × ℕ
-
-abbrev items : Vec ℕ Global → List ℕ
-items v = v.items
+KeyPlace = EntryKey × ℕ
 
 abbrev itself : ℕ → ℕ
 itself n = n
 
 pub place_map-none : page_places [] ≡ empty
-place_map-none = seen-none (slice_cmp nat_cmp) items itself
+place_map-none = seen-none (slice_cmp nat_cmp) key_bytes itself
 
-pub place_map-insert : (old new : List KeyPlace) (k : Vec ℕ Global) (at : ℕ) → IsStrictlySortedBy byte_order (keys_of old) → IsStrictlySortedBy byte_order (keys_of new) → new ≡ insert_entry byte_order old k at
-    → page_places new ≡ insert (page_places old) k.items at
-place_map-insert old new k at s t is = seen-insert (slice_cmp nat_cmp) items itself nat_list_cmp_total old new k at s t is
+pub place_map-insert : (old new : List KeyPlace) (k : EntryKey) (at : ℕ) → IsStrictlySortedBy entry_key_order (keys_of old) → IsStrictlySortedBy entry_key_order (keys_of new) → new ≡ insert_entry entry_key_order old k at
+    → page_places new ≡ insert (page_places old) (key_bytes k) at
+place_map-insert old new k at s t is = seen-insert (slice_cmp nat_cmp) key_bytes itself nat_list_cmp_total old new k at s t is
 
 same_option : (o : Option ℕ) → option_map itself o ≡ o
 same_option None = refl
 same_option (Some n) = refl
 
-pub place-lookup : (es : List KeyPlace) (k : List ℕ) → IsStrictlySortedBy byte_order (keys_of es) → lookup (is_at (λ x. slice_cmp nat_cmp k x.items)) es ≡ get (page_places es) k
-place-lookup es k s = sym (same_option (lookup (is_at (λ x. slice_cmp nat_cmp k x.items)) es)) ∙ lookup-seen (slice_cmp nat_cmp) items itself es k s
+pub place-lookup : (es : List KeyPlace) (k : List ℕ) → IsStrictlySortedBy entry_key_order (keys_of es) → lookup (is_at (λ x. slice_cmp nat_cmp k (key_bytes x))) es ≡ get (page_places es) k
+place-lookup es k s = sym (same_option (lookup (is_at (λ x. slice_cmp nat_cmp k (key_bytes x))) es)) ∙ lookup-seen (slice_cmp nat_cmp) key_bytes itself es k s
 
-pub place_map-remove : (old new : List KeyPlace) (k : List ℕ) → IsStrictlySortedBy byte_order (keys_of old) → IsStrictlySortedBy byte_order (keys_of new) → new ≡ remove_entry (is_at (λ x. slice_cmp nat_cmp k x.items)) old
+pub place_map-remove : (old new : List KeyPlace) (k : List ℕ) → IsStrictlySortedBy entry_key_order (keys_of old) → IsStrictlySortedBy entry_key_order (keys_of new) → new ≡ remove_entry (is_at (λ x. slice_cmp nat_cmp k (key_bytes x))) old
     → page_places new ≡ remove (page_places old) k
-place_map-remove old new k s t is = seen-remove (slice_cmp nat_cmp) items itself nat_list_cmp_total exact_bytes old new k s t is
+place_map-remove old new k s t is = seen-remove (slice_cmp nat_cmp) key_bytes itself nat_list_cmp_total exact_bytes old new k s t is
 
 -- ---- places that are only added
 

@@ -53,11 +53,11 @@ pub record IsLayout (kinds : List Kind) (m : Content) : Type 0 where
   pub long : (i : ℕ) → 3 ≤ i → times i (flat_map (λ p. p.chain) placed) ≡ one_if_long (kind_of_page kinds i)
   pub entries : AreEntries (map (λ p. p.entry) placed) m
 
--- A root and pages of these kinds.
+-- A root and pages of these kinds, without a directory.
 pub record Holds (pages : List (List ℕ)) (m : Content) : Type 0 where
   pub kinds : List Kind
   pub are : Each IsKind kinds
-  pub is : pages ≡ root_page (3 + length kinds) ∷ map bytes_of_kind kinds
+  pub is : pages ≡ root_page (3 + length kinds) 0 ∷ map bytes_of_kind kinds
   pub layout : IsLayout kinds m
 
 -- ---- recovery

@@ -35,9 +35,9 @@ puts es = map (λ (e : Entry). (e.0, Some e.1)) es
 unfoldable pub map_in : List (List ℕ) → Content
 map_in pages = after (puts (map (entry_in pages) (flat_map strings_on pages))) nothing
 
--- pages behind a root
+-- pages behind a root that names no directory
 abbrev pub behind_root : List Kind → List (List ℕ)
-behind_root ks = root_page (3 + length ks) ∷ map bytes_of_kind ks
+behind_root ks = root_page (3 + length ks) 0 ∷ map bytes_of_kind ks
 
 -- ---- computed example: the string of a short entry
 a_short_entry : entry_in [] (0 ∷ 0 ∷ 1 ∷ codes "kvw") ≡ (codes "k", codes "vw")

@@ -7,6 +7,8 @@ use Rattle.std.specs.Ordering.{nat_cmp}
 use Rattle.std.specs.Cmp.Lexicographic.{slice_cmp}
 use Rattle.std.specs.FinMap.{FinMap, get, insert, empty, from_sorted, code, get-empty}
 use Rattle.std.specs.Coded.{Coded, code_by, coded×, coded_ℕ, coded_list}
+use Rattle.ct_keep.specs.declared.entry_keys.EntryKey.{EntryKey}
+use Rattle.ct_keep.specs.EntryKeys.{key_bytes}
 use Rattle.pg_map.specs.declared.places.OldPlace.{OldPlace}
 
 abbrev pub PagePlaces : Type 0
@@ -15,8 +17,8 @@ PagePlaces = FinMap (slice_cmp nat_cmp) ℕ
 abbrev pub place_code : Coded PagePlaces
 place_code = code (coded_list coded_ℕ) coded_ℕ
 
-abbrev pub page_places : List (Vec ℕ Global × ℕ) → PagePlaces
-page_places es = from_sorted (map (λ e. (e.0.items, e.1)) es)
+abbrev pub page_places : List (EntryKey × ℕ) → PagePlaces
+page_places es = from_sorted (map (λ e. (key_bytes e.0, e.1)) es)
 
 -- the places with the notes of a log undone, the last of them first
 abbrev pub undone_places : List OldPlace → PagePlaces → PagePlaces

@@ -17,10 +17,6 @@ sheet_kinds sheets = map sheet_kind sheets
 abbrev pub head_of_long : ℕ → ℕ → List ℕ
 head_of_long next count = 2 ∷ (to_be_bytes w32 next ++ (to_be_bytes w16 count ++ 0 ∷ []))
 
--- the first eight bytes of a root
-abbrev pub head_of_root : ℕ → List ℕ
-head_of_root homes = 4 ∷ 0 ∷ 0 ∷ 0 ∷ to_be_bytes w32 homes
-
 -- ---- computed example
-a_new_root : head_of_root 3 ≡ 4 ∷ 0 ∷ 0 ∷ 0 ∷ 0 ∷ 0 ∷ 0 ∷ 3 ∷ []
-a_new_root = refl
+head_of_the_last : head_of_long 0 3 ≡ 2 ∷ 0 ∷ 0 ∷ 0 ∷ 0 ∷ 0 ∷ 3 ∷ 0 ∷ []
+head_of_the_last = refl

@@ -11,7 +11,7 @@ use std::alloc::Global;
 
 /// An entry as a string of a slotted page has it.
 #[derive(Debug, Drop)]
-pub(crate) enum Form {
+pub enum Form {
     Short {
         key: Vec<u8>,
         value: Vec<u8>,
@@ -28,7 +28,7 @@ pub(crate) enum Form {
 const LONGEST: usize = 4084;
 
 /// The entry that a string spells; None exactly where it spells none.
-pub(crate) fn item_of(alloc: Global, string: &[u8]) -> Result<Option<Form>, Memory>
+pub fn item_of(alloc: Global, string: &[u8]) -> Result<Option<Form>, Memory>
     ensures { IfOk result (λ found. IsItemOr (option_map item_in found) string.now) }
 {
     let Some(count) = key_count(string) else {

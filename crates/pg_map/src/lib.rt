@@ -12,11 +12,12 @@ mod sheets;
 
 ghost use Rattle.pg_map.specs.MapLaws.{PagesAreRead, PagesHoldOneMap};
 
+pub use item_reading::{Form, item_of};
 pub use items::{far_in, far_string, key_in, short_string};
 pub use places::{PlaceChanges, Places};
 pub use readings::{free_places, read_map};
 pub use sheet_reading::sheet_of;
-pub use sheets::{Sheet, root_bytes};
+pub use sheets::{Sheet, long_bytes, root_bytes};
 
 /// Pages hold one map at most, and it is read from them.
 pub fn pages_hold_one_map()

@@ -5,6 +5,7 @@ ghost use Rattle.std.specs.FinMap.{get, insert, remove, empty};
 ghost use Rattle.pg_map.specs.Places.{undone_places, after_put, ArePlaced, OnlyAddsPlaces};
 
 use ct_base::Memory;
+use ct_keep::{EntryKey, value_of};
 use std::alloc::Global;
 use std::collections::BTreeMap;
 use std::marker::Model;
@@ -12,12 +13,13 @@ use std::marker::Model;
 /// The place of the page on which each key stands. The place of a key that has no entry means nothing.
 #[derive(Debug, Drop)]
 pub struct Places {
-    places: BTreeMap<Vec<u8>, usize>,
+    places: BTreeMap<EntryKey, usize>,
+    /// A key that is looked for. It has room for each of those that are there.
+    sought: EntryKey,
 }
 
 impl Model for Places {
-    ghost use Rattle.std.specs.BTreeMap.{IsOrdered};
-    ghost use Rattle.ct_keep.specs.Pairs.{byte_order};
+    ghost use Rattle.ct_keep.specs.EntryKeys.{key_room, AreKeyed};
     ghost use Rattle.pg_map.specs.Places.{PagePlaces, place_code, page_places};
 
     ghost Value = { PagePlaces };
@@ -26,7 +28,7 @@ impl Model for Places {
 
     ghost view = { λ p. page_places p.places.entries };
 
-    ghost invariant = { λ p. IsOrdered byte_order p.places };
+    ghost invariant = { λ p. AreKeyed p.places (key_room p.sought) };
 }
 
 impl Places {
@@ -36,14 +38,15 @@ impl Places {
     {
         Places {
             places: BTreeMap::new(alloc),
+            sought: EntryKey::of(Vec::new(alloc)),
         }
     }
 
-    /// The place of a key. Its cost is the logarithm of the number of keys.
+    /// The place of a key. Its cost is the logarithm of the number of keys, and where no memory is left that number.
     pub fn place(&self, key: &[u8]) -> Option<usize>
         ensures { result ≡ get self.now key.now }
     {
-        self.places.get(key).copied()
+        value_of(&self.places, &self.sought, key).copied()
     }
 
     /// Gives a key a place, and gives back the one that it had. It fails only where the key is new.
@@ -53,14 +56,17 @@ impl Places {
         ensures err { OnErr result (self.new ≡ self.old) }
         ensures absent { OnErr result (get self.old key.items ≡ None) }
     {
-        Ok(self.places.insert(key, at)?)
+        self.sought.make_room(&key)?;
+        Ok(self.places.insert(EntryKey::of(key), at)?)
     }
 
     /// Takes a key out. It takes no memory.
     pub fn remove(&mut self, key: &[u8])
         ensures { self.new ≡ remove self.old key.now }
     {
-        let _ = self.places.remove(key);
+        if self.sought.set(key) {
+            let _ = self.places.remove(&self.sought);
+        }
     }
 
     /// Gives a key the place back that it had. It takes no memory.

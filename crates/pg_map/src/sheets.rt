@@ -4,7 +4,7 @@ ghost use Rattle.std.specs.Prelude.{◌≡◌, ◌≤◌, ◌+◌, length};
 ghost use Rattle.pg_journal.specs.Pages.{root_page};
 ghost use Rattle.ct_site.specs.Images.{written};
 ghost use Rattle.pg_map.specs.Kinds.{Long, IsKind, bytes_of_kind};
-ghost use Rattle.pg_map.specs.Sheets.{sheet_kind, head_of_long, head_of_root};
+ghost use Rattle.pg_map.specs.Sheets.{sheet_kind, head_of_long};
 
 use pg_page::Page;
 
@@ -50,7 +50,7 @@ fn long_head(next: u32, count: u16) -> [u8; 8]
 }
 
 /// The bytes of a long page.
-pub(crate) fn long_bytes(next: u32, bytes: &[u8]) -> [u8; 4096]
+pub fn long_bytes(next: u32, bytes: &[u8]) -> [u8; 4096]
     requires { length bytes.now ≤ 4088 }
     ensures { result ≡ bytes_of_kind (Long next bytes.now) }
 {
@@ -60,19 +60,9 @@ pub(crate) fn long_bytes(next: u32, bytes: &[u8]) -> [u8; 4096]
     page
 }
 
-/// The first bytes of a root.
-fn root_head(homes: u32) -> [u8; 8]
-    ensures { result ≡ head_of_root homes }
-{
-    let [a, b, c, d] = homes.to_be_bytes();
-    [4, 0, 0, 0, a, b, c, d]
-}
-
-/// The bytes of a root.
+/// The bytes of a root that names no directory.
 pub fn root_bytes(homes: u32) -> [u8; 4096]
-    ensures { result ≡ root_page homes }
+    ensures { result ≡ root_page homes 0 }
 {
-    let mut page = [0; 4096];
-    put_at(&mut page, 0, &root_head(homes));
-    page
+    pg_journal::root_bytes(homes, 0)
 }

@@ -71,8 +71,8 @@ fn two_numbers(first: usize, second: usize) -> [u8; 4]
     [a, b, c, d]
 }
 
-/// The string of a slot, where it lies on the page.
-fn string_in(bytes: &[u8; 4096], number: usize) -> Option<&[u8]>
+/// The string of a number on the slotted page of these bytes, which are looked at no further.
+pub fn string_in(bytes: &[u8; 4096], number: usize) -> Option<&[u8]>
     ensures string { IfSome result (λ s. s.now ≡ string_at bytes.now number) }
     ensures none { IsNone result → (ss : List (List ℕ)) → Fits ss → bytes.now ≡ page_bytes ss → number < length ss → ⊥ }
 {

@@ -71,9 +71,9 @@ strings_on_kind Free is = refl
 strings_on_kind (Slotted ss) is = ap (strings_in (page_bytes ss)) (count_of_page ss is) ∙ page_read ss is ∙ sym (append-nil ss)
 strings_on_kind (Long next bytes) is = refl
 
-strings_on_root : (h : ℕ) → strings_on (root_page h) ≡ []
+strings_on_root : (h t : ℕ) → strings_on (root_page h t) ≡ []
 unfolding root_page strings_on
-strings_on_root h = refl
+strings_on_root h t = refl
 
 pub strings-cons : (k : Kind) (ks : List Kind) → strings_of (k ∷ ks) ≡ strings_of (k ∷ []) ++ strings_of ks
 strings-cons Free ks = refl
@@ -173,7 +173,7 @@ unfolding map_in
 map_read pages m h =
     let ks = h.kinds in
     let strings : flat_map strings_on (behind_root ks) ≡ map (λ (p : Placed). item_bytes p.item) h.layout.placed =
-    ap (λ (l : List (List ℕ)). l ++ flat_map strings_on (map bytes_of_kind ks)) (strings_on_root (3 + length ks)) ∙ all_strings ks h.are ∙ h.layout.strings in
+    ap (λ (l : List (List ℕ)). l ++ flat_map strings_on (map bytes_of_kind ks)) (strings_on_root (3 + length ks) 0) ∙ all_strings ks h.are ∙ h.layout.strings in
     ap (λ (l : List (List ℕ)). after (puts (map (entry_in l) (flat_map strings_on l))) nothing) h.is
     ∙ ap (λ (l : List (List ℕ)). after (puts (map (entry_in (behind_root ks)) l)) nothing) strings
     ∙ ap (λ (es : List Entry). after (puts es) nothing) (entries_read ks h.layout.placed h.are h.layout.items h.layout.stand)

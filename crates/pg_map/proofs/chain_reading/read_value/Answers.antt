@@ -1,6 +1,6 @@
 use Rattle.std.proofs.Common.{arith}
 use Rattle.pg_map.specs.Sheets.{sheet_kinds}
-use Rattle.pg_map.proofs.ValueReads.{page_found, page_missing, taken_some, walks_more, walks_stuck, walks_on, walks_all}
+use Rattle.pg_map.specs.laws.ValueReads.{page_found, page_missing, taken_some, walks_more, walks_stuck, walks_on, walks_all}
 use Rattle.pg_map.proofs.chain_reading.read_value.Goals as goal
 
 pub returns-in_default : goal.returns-in_default

@@ -1,6 +1,6 @@
 use Rattle.std.proofs.Common.{◌-◌, vec_len}
 use Rattle.pg_map.specs.Sheets.{sheet_kinds}
-use Rattle.pg_map.proofs.ValueReads.{Walks}
+use Rattle.pg_map.specs.laws.ValueReads.{Walks}
 use Rattle.pg_map.proofs.chain_reading.read_value.Given as goal
 
 abbrev pub invariant-loop-taken : goal.invariant-loop-taken

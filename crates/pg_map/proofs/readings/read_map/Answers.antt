@@ -1,4 +1,4 @@
-use Rattle.std.proofs.Common.{◌≡◌, ◌+◌, ◌∙◌, List, Bool, length, take, drop, sym, ap, subst, map, arith}
+use Rattle.std.proofs.Common.{◌≡◌, ◌+◌, List, Bool, length, drop, sym, ap, subst, map, arith}
 use Rattle.std.proofs.lemmas.Result.{IfOk-weaker}
 use Rattle.std.specs.Option.{option_map}
 use Rattle.pg_map.specs.ReadEntries.{entry_at}
