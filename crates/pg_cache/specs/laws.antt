@@ -1,0 +1,2 @@
+-- Laws of caches.
+pub mod Caches
