@@ -1,0 +1,19 @@
+-- Laws of a store with a directory.
+pub mod Batching
+pub mod Building
+pub mod Changing
+pub mod Counting
+pub mod Directing
+pub mod Holding
+pub mod Levels
+pub mod Listing
+pub mod Making
+pub mod Numbering
+pub mod OpenStore
+pub mod Opening
+pub mod Overlays
+pub mod Pages
+pub mod Places
+pub mod ToldMap
+pub mod Visiting
+pub mod Written

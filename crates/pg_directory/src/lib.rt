@@ -1,0 +1,58 @@
+//! The directory of a store file: in order of key, where each entry stands.
+#![tactic(auto)]
+
+mod building;
+mod changing;
+mod comparing;
+mod directories;
+mod entries;
+mod far_values;
+mod fetching;
+mod layering;
+mod leaves;
+mod levels;
+mod levels_down;
+mod making;
+mod naming;
+mod noting;
+mod numbering;
+mod opening;
+mod passing;
+mod placing;
+mod ranking;
+mod reading;
+mod searching;
+mod stores;
+mod surveying;
+mod telling;
+mod unused;
+mod values;
+mod walking;
+mod writing;
+
+pub use building::{InnerPage, build_level, children_of, pages_above};
+pub use changing::{move_entry, part_entries, put_entry, rank_among, take_entry};
+pub use comparing::{is_below, key_of, page_behind};
+pub use directories::{Directory, open_directory};
+pub use entries::{Child, EntryAt};
+pub use far_values::{are_all_taken, take_values};
+pub use fetching::{fetch, next_after, read_entry};
+pub use layering::{UpperPages, build_levels};
+pub use leaves::{LeafPage, build_leaves, children_of_leaves, leaves_for};
+pub use levels::read_level;
+pub use levels_down::read_levels;
+pub use making::{NewDirectory, make_directory};
+pub use naming::{all_places, named_places};
+pub use noting::{PageNote, take_chain};
+pub use numbering::numbers_from;
+pub use opening::{OpenPages, open_pages};
+pub use passing::{FarValue, FirstPass, first_pass};
+pub use placing::places_in_order;
+pub use reading::{child_at, count_in, level_in, named_at};
+pub use searching::{Neighbours, look_up};
+pub use stores::{OpenStore, open_store};
+pub use surveying::{are_well, weigh};
+pub use telling::is_directory;
+pub use unused::unused_places;
+pub use walking::walk_leaves;
+pub use writing::{inner_page, leaf_page};
