@@ -126,7 +126,7 @@ is_batch sheets notes before numbers draft is = record {
         (λ less. inl (subst (Has (pages_of (sheet_kinds sheets) numbers)) (sym (yes_ refl)) (has_number (sheet_kinds sheets) numbers 2 (is.root less))))
         (λ not_less.
         let e : length (take before (undone notes (sheet_kinds sheets))) ≡ length (sheet_kinds sheets) = let g = draft.grown in omega (arith, g, not_less, length_olds, length-sheet_kinds sheets) in
-        inr (ap (home (behind_root (take before (undone notes (sheet_kinds sheets))))) (yes_ refl) ∙ ap (λ (k : ℕ). root_page (3 + k)) e ∙ sym (ap (home (behind_root (sheet_kinds sheets))) (yes_ refl))))
+        inr (ap (home (behind_root (take before (undone notes (sheet_kinds sheets))))) (yes_ refl) ∙ ap (λ (k : ℕ). root_page (3 + k) 0) e ∙ sym (ap (home (behind_root (sheet_kinds sheets))) (yes_ refl))))
         (either_below before (length sheets))
 
 pub kind_got : (xs : List Sheet) (at : ℕ) (x : Sheet) → at < length xs → x ≡ get_or xs at x → get_or (sheet_kinds xs) at Free ≡ sheet_kind x

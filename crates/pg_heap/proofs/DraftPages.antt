@@ -71,7 +71,7 @@ length_of_kind (Long next bytes) good = omega (arith, good.2, length-append byte
 
 length_of_home : (ks : List Kind) (n : ℕ) → Each IsKind ks → 2 ≤ n → n < 3 + length ks → length (home (behind_root ks) n) ≡ 4096
 length_of_home ks n good low high = elim (cases_eq n 2) [
-  | inl is ↦ ap (λ (m : ℕ). length (home (behind_root ks) m)) is ∙ length-root (3 + length ks)
+  | inl is ↦ ap (λ (m : ℕ). length (home (behind_root ks) m)) is ∙ length-root (3 + length ks) 0
   | inr other ↦
       let e : n ≡ 3 + (n - 3) = omega (arith, low, other) in
       ap (λ (m : ℕ). length (home (behind_root ks) m)) e ∙ ap (λ (l : List ℕ). length l) (home_of ks (n - 3) (omega (arith, low, other, high)))
@@ -111,9 +111,9 @@ within_at ks low end (n ∷ ns) (suc i) between less = let r = within_at ks (suc
 pub number_within : (ks : List Kind) (end : ℕ) (ns : List ℕ) (i : ℕ) → AreBetween 2 end (pages_of ks ns) → i < length ns → (2 ≤ get_or ns i 0) × (get_or ns i 0 < 3 + length ks)
 number_within ks end ns i between less = within_at ks 2 (3 + length ks) ns i (narrowed ks 2 end (pages_of ks ns) between (each_page ks ns)) less
 
-pub root_there : (ks : List Kind) (ns : List ℕ) (i n homes : ℕ) (root : List ℕ) → i < length ns → n ≡ get_or ns i 0 → n ≡ 2 → homes ≡ 3 + length ks → root ≡ root_page homes → root ≡ image_at i (pages_of ks ns)
+pub root_there : (ks : List Kind) (ns : List ℕ) (i n homes : ℕ) (root : List ℕ) → i < length ns → n ≡ get_or ns i 0 → n ≡ 2 → homes ≡ 3 + length ks → root ≡ root_page homes 0 → root ≡ image_at i (pages_of ks ns)
 root_there ks ns i n homes root less number two count is =
-    is ∙ ap root_page count ∙ sym (page_there ks ns i less ∙ ap (home (behind_root ks)) (sym number ∙ two))
+    is ∙ ap (λ (h : ℕ). root_page h 0) count ∙ sym (page_there ks ns i less ∙ ap (home (behind_root ks)) (sym number ∙ two))
 
 pub sheet_there : (ks : List Kind) (ns : List ℕ) (i n : ℕ) (kind : Kind) (bytes : List ℕ) → i < length ns → n ≡ get_or ns i 0 → 3 ≤ n → n < 3 + length ks → kind ≡ get_or ks (n - 3) Free → bytes ≡ bytes_of_kind kind
     → bytes ≡ image_at i (pages_of ks ns)

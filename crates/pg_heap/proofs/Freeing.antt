@@ -8,17 +8,17 @@ use Rattle.pg_heap.specs.FreePlaces.{times_listed, one_if_free, free_at, ListsFr
 
 -- ---- how often a place is listed
 
-times-append : (xs ys : List ℕ) (at : ℕ) → times_listed (xs ++ ys) at ≡ times_listed xs at + times_listed ys at
+pub times-append : (xs ys : List ℕ) (at : ℕ) → times_listed (xs ++ ys) at ≡ times_listed xs at + times_listed ys at
 times-append [] ys at = omega arith
 times-append (x ∷ xs) ys at = of _ _ _ _ (times-append xs ys at)
   where
     of : (a b c d : ℕ) → a ≡ b + c → d + a ≡ d + b + c
     of a b c d e = omega (arith, e)
 
-one_here : (x at : ℕ) → x ≡ at → times_listed (x ∷ []) at ≡ 1
+pub one_here : (x at : ℕ) → x ≡ at → times_listed (x ∷ []) at ≡ 1
 one_here x at is = ap (λ (b : Bool). cond b 1 0 + 0) (eq-eqb x at is)
 
-one_elsewhere : (x at : ℕ) → (x ≡ at → ⊥) → times_listed (x ∷ []) at ≡ 0
+pub one_elsewhere : (x at : ℕ) → (x ≡ at → ⊥) → times_listed (x ∷ []) at ≡ 0
 one_elsewhere x at apart = ap (λ (b : Bool). cond b 1 0 + 0) (ne_eqb x at apart)
 
 -- ---- whether a page is free

@@ -1,5 +1,9 @@
 pub mod Batching
 pub mod Copying
+pub mod DirectFrees
+pub mod DirectStates
+pub mod DirectStores
+pub mod Directs
 pub mod DraftPages
 pub mod Drafting
 pub mod Forgotten
@@ -10,4 +14,7 @@ pub mod Planning
 pub mod Taking
 pub mod Changing
 pub mod Stepping
+pub mod StoreFrees
+pub mod StoreLoadings
+pub mod StoreStates
 pub mod Applying

@@ -7,7 +7,8 @@ use Rattle.ct_site.specs.Disks.{DiskView, IsSame, Leaves, leaves_same, leaves_th
 use Rattle.ct_site.specs.laws.Calls.{settled_same, same_then}
 use Rattle.ct_keep.specs.Content.{Content}
 use Rattle.pg_journal.specs.Looking.{AnswersBy, IsNoStore, Loaded, LoadsKnown, WritesNothing}
-use Rattle.pg_journal.specs.Pages.{page, pages_from, homes_in, root_page}
+use Rattle.pg_journal.specs.Pages.{page, pages_from, homes_in, top_in, root_page}
+use Rattle.pg_journal.specs.laws.PageRuns.{root_top}
 use Rattle.pg_journal.specs.Recovered.{IsRecovered, IsStore, first_pages}
 use Rattle.pg_journal.specs.Standing.{DiskStands}
 use Rattle.pg_journal.specs.laws.Recovered.{one_recovered}
@@ -79,32 +80,44 @@ pages_none image bytes i n none at less = record {
 
 -- ---- pages from a root on
 
-stands_pages : (disk : DiskView) (homes : ℕ) (pages : List (List ℕ)) → (st : DiskStands disk homes pages) → (3 ≤ homes) × (pages ≡ root_page homes ∷ pages_from (page st.image) 3 (homes - 3))
-stands_pages disk homes pages st =
+stands_pages : (disk : DiskView) (homes : ℕ) (pages : List (List ℕ)) → (st : DiskStands disk homes pages) → top_in (page st.image 2) ≡ 0 → (3 ≤ homes) × (pages ≡ root_page homes 0 ∷ pages_from (page st.image) 3 (homes - 3))
+stands_pages disk homes pages st top =
     let closed = st.shut.closed in
     let least = closed.root.least in
     let count = st.shut.count in
     let n : homes_in (page st.image 2) - 2 ≡ suc (homes - 3) = omega (arith, least, count) in (
       omega (arith, least, count),
-      closed.are ∙ ap (pages_from (page st.image) 2) n ∙ ap (λ (p : List ℕ). p ∷ pages_from (page st.image) 3 (homes - 3)) (closed.root.is ∙ ap root_page (sym count)),
+      closed.are ∙ ap (pages_from (page st.image) 2) n ∙ ap (λ (p : List ℕ). p ∷ pages_from (page st.image) 3 (homes - 3)) (closed.root.is ∙ ap (λ (h : ℕ). root_page h (top_in (page st.image 2))) (sym count) ∙ ap (root_page homes) top),
     )
 
-pub pages_of : (disk : DiskView) (homes n : ℕ) (pages : List (List ℕ)) (ks : List Kind) → (st : DiskStands disk homes pages) → n ≡ homes - 3 → ArePages st.image n ks → ArePagesOf pages ks
-pages_of disk homes n pages ks st count are =
-    let s = stands_pages disk homes pages st in
+pub pages_of : (disk : DiskView) (homes n : ℕ) (pages : List (List ℕ)) (ks : List Kind) → (st : DiskStands disk homes pages) → top_in (page st.image 2) ≡ 0 → n ≡ homes - 3 → ArePages st.image n ks → ArePagesOf pages ks
+pages_of disk homes n pages ks st top count are =
+    let s = stands_pages disk homes pages st top in
     let low = s.0 in
     let long : length ks ≡ n = sym (length-map ks bytes_of_kind) ∙ ap (λ (l : List (List ℕ)). length l) are.is ∙ length-from (page st.image) 3 n in
     let all : homes ≡ 3 + length ks = omega (arith, low, long, count) in
     record {
       are = are.are;
-      is = s.1 ∙ ap (λ (h : ℕ). root_page h ∷ pages_from (page st.image) 3 (homes - 3)) all ∙ ap (λ (m : ℕ). root_page (3 + length ks) ∷ pages_from (page st.image) 3 m) (sym count)
-          ∙ ap (λ (l : List (List ℕ)). root_page (3 + length ks) ∷ l) (sym are.is);
+      is = s.1 ∙ ap (λ (h : ℕ). root_page h 0 ∷ pages_from (page st.image) 3 (homes - 3)) all ∙ ap (λ (m : ℕ). root_page (3 + length ks) 0 ∷ pages_from (page st.image) 3 m) (sym count)
+          ∙ ap (λ (l : List (List ℕ)). root_page (3 + length ks) 0 ∷ l) (sym are.is);
     }
 
-pub no_kinds : (disk : DiskView) (homes n : ℕ) (pages : List (List ℕ)) → (st : DiskStands disk homes pages) → n ≡ homes - 3 → AreNoPages st.image n → HaveNoKinds pages
+pub no_kinds : (disk : DiskView) (homes n : ℕ) (pages : List (List ℕ)) → (st : DiskStands disk homes pages) → top_in (page st.image 2) ≡ 0 → n ≡ homes - 3 → AreNoPages st.image n → HaveNoKinds pages
 unfolding tail_of
-no_kinds disk homes n pages st count none = record {
-  none = λ ks of. none.none ks (record { are = of.are; is = ap tail_of (sym of.is ∙ (stands_pages disk homes pages st).1) ∙ ap (pages_from (page st.image) 3) (sym count) });
+no_kinds disk homes n pages st top count none = record {
+  none = λ ks of. none.none ks (record { are = of.are; is = ap tail_of (sym of.is ∙ (stands_pages disk homes pages st top).1) ∙ ap (pages_from (page st.image) 3) (sym count) });
+}
+
+-- a root that names a directory is none of a store without one
+pub no_kinds_top : (disk : DiskView) (homes : ℕ) (pages : List (List ℕ)) → (st : DiskStands disk homes pages) → (top_in (page st.image 2) ≡ 0 → ⊥) → HaveNoKinds pages
+unfolding first_of_
+no_kinds_top disk homes pages st other = record {
+  none = λ ks of.
+      let closed = st.shut.closed in
+      let least = closed.root.least in
+      let n : homes_in (page st.image 2) - 2 ≡ suc (homes_in (page st.image 2) - 3) = omega (arith, least) in
+      let first : page st.image 2 ≡ root_page (3 + length ks) 0 = ap first_of_ (sym (closed.are ∙ ap (pages_from (page st.image) 2) n)) ∙ ap first_of_ of.is in
+      other (ap top_in first ∙ root_top (3 + length ks) 0 (omega arith));
 }
 
 -- ---- recovery

@@ -26,7 +26,7 @@ pub record AreSortedOnce (old new : List ℕ) : Type 0 where
   pub few : length new ≤ length old
 
 -- ---- computed examples: the root and the first page behind it, which is free
-root_and_free : pages_of (Free ∷ []) (2 ∷ 3 ∷ []) ≡ (2, root_page 4) ∷ (3, bytes_of_kind Free) ∷ []
+root_and_free : pages_of (Free ∷ []) (2 ∷ 3 ∷ []) ≡ (2, root_page 4 0) ∷ (3, bytes_of_kind Free) ∷ []
 root_and_free = refl
 
 of_the_third : numbers_at (2 ∷ []) ≡ 5 ∷ []

@@ -2,6 +2,7 @@ pub mod Applying
 pub mod BatchPages
 pub mod Commits
 pub mod Committing
+pub mod Directing
 pub mod DraftFields
 pub mod DraftPages
 pub mod Drafts
@@ -19,4 +20,8 @@ pub mod Planned
 pub mod Recovering
 pub mod Removals
 pub mod Slots
+pub mod StoreDirects
+pub mod StoreHeapFields
+pub mod StoreHeaps
+pub mod StoreLoading
 pub mod laws

@@ -1,6 +1,7 @@
 //! The places of free pages.
 
-ghost use Rattle.std.specs.Prelude.{◌≡◌, ◌++◌, ◌∷◌, [], IfSome, IsNone, OnOk};
+ghost use Rattle.std.specs.Prelude.{◌≡◌, ◌++◌, ◌∷◌, [], IfOk, IfSome, IsNone, OnOk, drop};
+ghost use Rattle.std.specs.Vec.{vec_capacity};
 
 use ct_base::Memory;
 use std::alloc::Global;
@@ -86,4 +87,36 @@ impl FreeList {
         };
         self.left = self.first.len();
     }
+
+    /// The places, in another list.
+    pub(crate) fn copied(&self, alloc: Global) -> Result<Vec<usize>, Memory>
+        ensures { IfOk result (λ places. places.items ≡ self.now.now) }
+    {
+        let mut places = Vec::from_slice(alloc, &self.first[..self.left])?;
+        places.extend_from_slice(&self.added)?;
+        Ok(places)
+    }
+
+    /// Takes so many places that are listed first, for good. It takes no memory.
+    pub(crate) fn drop_first(&mut self, count: usize)
+        ensures { self.new ≡ record { before = drop count self.old.now; now = drop count self.old.now } }
+    {
+        self.first.truncate(self.left);
+        let Ok(()) = self.first.append(&mut self.added) else {
+            unreachable!()
+        };
+        drop_front(&mut self.first, count);
+        self.left = self.first.len();
+    }
+}
+
+/// Lets go of so many places at the front. It takes no memory.
+fn drop_front(places: &mut Vec<usize>, count: usize)
+    ensures items { places.new.items ≡ drop count places.old.items }
+    ensures capacity { vec_capacity places.new ≡ vec_capacity places.old }
+{
+    let all = places.len();
+    let taken = count.min(all);
+    places.rotate_left(taken);
+    places.truncate(all - taken);
 }

@@ -4,6 +4,7 @@
 mod batch_plans;
 mod changes;
 mod commits;
+mod directing;
 mod drafts;
 mod entering;
 mod forgetting;
@@ -15,5 +16,10 @@ mod pages;
 mod plans;
 mod puts;
 mod slots;
+mod store_directs;
+mod store_heaps;
+mod store_loading;
 
 pub use heaps::Heap;
+pub use store_heaps::StoreHeap;
+pub use store_loading::{LoadedStore, load_store};

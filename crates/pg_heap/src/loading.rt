@@ -4,7 +4,7 @@ ghost use Rattle.std.specs.Prelude.{◌≡◌, ◌≢◌, ◌≤◌, ◌<◌, �
 ghost use Rattle.ct_site.specs.Disks.{IsSame, IsSettled, Leaves, Works};
 ghost use Rattle.ct_site.specs.Lengths.{IsWithin, Lengthens};
 ghost use Rattle.pg_journal.specs.Looking.{Loads, LoadsKnown};
-ghost use Rattle.pg_journal.specs.Pages.{page};
+ghost use Rattle.pg_journal.specs.Pages.{page, top_in};
 ghost use Rattle.pg_journal.specs.Recovered.{Alike, IsOnlyRead};
 ghost use Rattle.pg_journal.specs.Standing.{DiskStands};
 ghost use Rattle.pg_journal.specs.Syncs.{SyncsAtMost};
@@ -63,7 +63,16 @@ fn read_sheets<D: Disk>(alloc: Global, disk: &mut D, count: u32) -> Result<Vec<S
     Ok(sheets)
 }
 
-/// The pages behind the root of a store. NotAStore exactly where the bytes of one are those of no page.
+/// The page at the top of the directory that a root names, or 0.
+fn top_of(root: &[u8; 4096]) -> u32
+    ensures { result ≡ top_in root.now }
+{
+    let mut bytes = [0; 4];
+    bytes.copy_from_slice(&root[8..12]);
+    u32::from_be_bytes(bytes)
+}
+
+/// The pages behind the root of a store. NotAStore exactly where the bytes of one are those of no page, or the root names a directory.
 pub(crate) fn load_sheets<D: Disk>(
     alloc: Global,
     disk: &mut D,
@@ -82,6 +91,13 @@ pub(crate) fn load_sheets<D: Disk>(
         return Err(LoadFault::Disk);
     };
     if 4096 * homes as u64 > size {
+        return Err(LoadFault::NotAStore);
+    }
+    let Ok(root) = read_page(disk, 2) else {
+        return Err(LoadFault::Disk);
+    };
+    let top = top_of(&root);
+    if top != 0 {
         return Err(LoadFault::NotAStore);
     }
     read_sheets(alloc, disk, homes - 3)

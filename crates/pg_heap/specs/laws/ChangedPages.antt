@@ -5,32 +5,9 @@ use Rattle.std.proofs.Common.{◌≤◌, ◌<◌, ◌≡◌, ◌⊎◌, inl, inr
 use Rattle.std.proofs.lemmas.List.{length-map}
 use Rattle.pg_journal.specs.Pages.{Numbered, with_page, put_on, Has, homes_in, root_page, pages_from, home, changed}
 use Rattle.pg_journal.specs.laws.PageRuns.{pages_same, root_homes}
+use Rattle.pg_directory.specs.laws.Written.{put_goal, listed}
 use Rattle.pg_map.specs.Kinds.{Each, Kind, bytes_of_kind}
 use Rattle.pg_map.specs.MapReading.{behind_root}
-
-put_goal : (ws : List Numbered) (goal pages : ℕ → List ℕ) → Each (λ (w : Numbered). w.1 ≡ goal w.0) ws → (i : ℕ) → Has ws i ⊎ (pages i ≡ goal i) → put_on ws pages i ≡ goal i
-put_goal [] goal pages are i r = ⊎_elim (λ no_. absurd no_) (λ is. is) r
-put_goal (w ∷ ws) goal pages are i r = put_goal ws goal (with_page w pages) are.1 i (⊎_elim
-    (λ has. ⊎_elim (λ here_. inr (at (w.0 == i) (λ no_. absurd (of_false no_ here_)) here_)) (λ more. inl more) has)
-    (λ is. inr (other (w.0 == i) (eqb-true w.0 i) is)) r)
-  where
-    of_false : (w.0 == i) ≡ false → w.0 ≡ i → ⊥
-    of_false e is = false≢true (sym e ∙ eq-eqb w.0 i is)
-
-    at : (b : Bool) → (b ≡ false → ⊥) → w.0 ≡ i → cond b w.1 (pages i) ≡ goal i
-    at true no_ is = are.0 ∙ ap goal is
-    at false no_ is = absurd (no_ refl)
-
-    other : (b : Bool) → (b ≡ true → w.0 ≡ i) → pages i ≡ goal i → cond b w.1 (pages i) ≡ goal i
-    other true yes_ is = are.0 ∙ ap goal (yes_ refl)
-    other false yes_ is = is
-
-listed : (f : ℕ → List ℕ) (i : ℕ) (ps : List (List ℕ)) → ((j : ℕ) → j < length ps → f (i + j) ≡ get_or ps j []) → pages_from f i (length ps) ≡ ps
-listed f i [] is = refl
-listed f i (p ∷ ps) is =
-    let e : i ≡ i + 0 = omega arith in
-    ap (λ (x : List ℕ). x ∷ pages_from f (suc i) (length ps)) (ap f e ∙ is 0 (omega arith))
-    ∙ ap (λ (l : List (List ℕ)). p ∷ l) (listed f (suc i) ps (λ j less. let e : suc i + j ≡ i + suc j = omega arith in ap f e ∙ is (suc j) (omega (arith, less))))
 
 -- The pages of these kinds come of others by a batch that has, of each page that isn't the same, what it is then, and no page else.
 pub changed_is : (ks ls : List Kind) (ws : List Numbered) → 3 + length ls < 2 ^ 32 → Each (λ (w : Numbered). w.1 ≡ home (behind_root ls) w.0) ws
@@ -38,8 +15,8 @@ pub changed_is : (ks ls : List Kind) (ws : List Numbered) → 3 + length ls < 2 
 changed_is ks ls ws small are each =
     let f : ℕ → List ℕ = put_on ws (home (behind_root ks)) in
     let goal : ℕ → List ℕ = home (behind_root ls) in
-    let root : f 2 ≡ root_page (3 + length ls) = put_goal ws goal (home (behind_root ks)) are 2 (each 2 (omega arith) (omega arith)) in
-    let homes : homes_in (f 2) ≡ 3 + length ls = ap homes_in root ∙ root_homes (3 + length ls) small in
+    let root : f 2 ≡ root_page (3 + length ls) 0 = put_goal ws goal (home (behind_root ks)) are 2 (each 2 (omega arith) (omega arith)) in
+    let homes : homes_in (f 2) ≡ 3 + length ls = ap homes_in root ∙ root_homes (3 + length ls) 0 small in
     let count : (3 + length ls) - 2 ≡ suc (length (map bytes_of_kind ls)) = let e = length-map ls bytes_of_kind in omega (arith, e) in
     ap (λ (n : ℕ). pages_from f 2 (n - 2)) homes
     ∙ pages_same f goal 2 ((3 + length ls) - 2) (λ j low high. put_goal ws goal (home (behind_root ks)) are j (each j low (omega (arith, high))))

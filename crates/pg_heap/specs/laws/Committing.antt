@@ -3,7 +3,7 @@ use Rattle.std.proofs.lemmas.Bool.{eq-eqb, eqb-true, false≢true, cases_lt}
 use Rattle.std.proofs.lemmas.List.{length-map}
 use Rattle.std.proofs.Common.{◌≡◌, ◌≤◌, ◌<◌, ◌⊎◌, inl, inr, ⊎_elim, ◌==◌, zero, suc, ℕ, ◌+◌, ◌-◌, ◌^◌, max, List, [], ◌∷◌, length, get_or, map, refl, sym, ap, subst, ◌∙◌, arith}
 use Rattle.ct_keep.specs.Content.{Content}
-use Rattle.pg_journal.specs.Pages.{Numbered, Has, home, root_page, changed, AreBetween, homes_in}
+use Rattle.pg_journal.specs.Pages.{Numbered, Has, home, root_page, changed, AreBetween, homes_in, top_in}
 use Rattle.pg_journal.specs.Standing.{MayCommit, HasGoodRoot, homes_with, DiskStands, IsEither}
 use Rattle.std.specs.Prelude.{Bool, true, false, cond}
 use Rattle.pg_journal.specs.Recovered.{IsRecovered, IsStore, IsClosed}
@@ -13,7 +13,7 @@ use Rattle.pg_map.specs.Holding.{Holds}
 use Rattle.pg_map.specs.MapReading.{behind_root}
 use Rattle.pg_map.specs.Done.{IsDone}
 use Rattle.pg_map.specs.laws.Whole.{whole}
-use Rattle.pg_journal.specs.laws.PageRuns.{root_homes}
+use Rattle.pg_journal.specs.laws.PageRuns.{root_homes, root_top}
 use Rattle.pg_heap.specs.laws.ChangedPages.{changed_is}
 use Rattle.pg_heap.specs.Committing.{IsBatchOf, AreEither}
 
@@ -60,8 +60,8 @@ has_low : (low end : ℕ) (ws : List Numbered) (i : ℕ) → AreBetween low end 
 has_low low end [] i between has = absurd has
 has_low low end (w ∷ ws) i between has = ⊎_elim (λ here_. let a = between.0 in omega (arith, a, here_)) (λ more. let a = between.0 in let b = has_low (suc w.0) end ws i between.3 more in omega (arith, a, b)) has
 
-same_roots : (a b : ℕ) → a ≤ 2 ^ 31 → b ≤ 2 ^ 31 → root_page a ≡ root_page b → a ≡ b
-same_roots a b x y is = sym (root_homes a (omega (arith, x))) ∙ ap homes_in is ∙ root_homes b (omega (arith, y))
+same_roots : (a b : ℕ) → a ≤ 2 ^ 31 → b ≤ 2 ^ 31 → root_page a 0 ≡ root_page b 0 → a ≡ b
+same_roots a b x y is = sym (root_homes a 0 (omega (arith, x))) ∙ ap homes_in is ∙ root_homes b 0 (omega (arith, y))
 
 pub homes_said : (before now : List Kind) (ws : List Numbered) (homes end : ℕ) → homes ≡ 3 + length before → length before ≤ length now → 3 + length now ≤ 2 ^ 31 → AreBetween 2 end ws → IsBatchOf before now ws → homes_with homes ws ≡ 3 + length now
 homes_said before now [] homes end is more most between batch =
@@ -69,7 +69,7 @@ homes_said before now [] homes end is more most between batch =
 homes_said before now (w ∷ ws) homes end is more most between batch = of (w.0 == 2) (eqb-true w.0 2) (λ e is. false≢true (sym e ∙ eq-eqb w.0 2 is))
   where
     of : (t : Bool) → (t ≡ true → w.0 ≡ 2) → (t ≡ false → (w.0 ≡ 2 → ⊥)) → cond t (homes_in w.1) homes ≡ 3 + length now
-    of true yes_ no_ = ap homes_in (batch.are.0 ∙ ap (home (behind_root now)) (yes_ refl)) ∙ root_homes (3 + length now) (omega (arith, most))
+    of true yes_ no_ = ap homes_in (batch.are.0 ∙ ap (home (behind_root now)) (yes_ refl)) ∙ root_homes (3 + length now) 0 (omega (arith, most))
     of false yes_ no_ = ⊎_elim
         (λ has. ⊎_elim (λ here_. absurd (no_ refl here_)) (λ later. let a = between.0 in let b = has_low (suc w.0) end ws 2 between.3 later in absurd (omega (arith, a, b))) has)
         (λ same_. is ∙ same_roots (3 + length before) (3 + length now) (omega (arith, more, most)) most same_) (batch.all 2 (omega arith) (omega arith))
@@ -77,9 +77,10 @@ homes_said before now (w ∷ ws) homes end is more most between batch = of (w.0 
 good_root : (now : List Kind) (ws : List Numbered) → 3 + length now ≤ 2 ^ 31 → Each (λ (w : Numbered). w.1 ≡ home (behind_root now) w.0) ws → HasGoodRoot ws
 good_root now [] most are = tt
 good_root now (w ∷ ws) most are = λ two.
-    let root : w.1 ≡ root_page (3 + length now) = are.0 ∙ ap (home (behind_root now)) two in
-    let homes : homes_in w.1 ≡ 3 + length now = ap homes_in root ∙ root_homes (3 + length now) (omega (arith, most)) in
-    record { is = root ∙ ap root_page (sym homes); least = omega (arith, homes); most = omega (arith, homes, most) }
+    let root : w.1 ≡ root_page (3 + length now) 0 = are.0 ∙ ap (home (behind_root now)) two in
+    let homes : homes_in w.1 ≡ 3 + length now = ap homes_in root ∙ root_homes (3 + length now) 0 (omega (arith, most)) in
+    let top : top_in w.1 ≡ 0 = ap top_in root ∙ root_top (3 + length now) 0 (omega arith) in
+    record { is = root ∙ ap (λ (h : ℕ). root_page h 0) (sym homes) ∙ ap (root_page (homes_in w.1)) (sym top); least = omega (arith, homes); most = omega (arith, homes, most) }
 
 pub may_commit : (before now : List Kind) (ws : List Numbered) (homes : ℕ) → homes ≡ 3 + length before → length before ≤ length now → 3 + length now ≤ 2 ^ 31 → AreBetween 2 (2 ^ 32) ws → 1 ≤ length ws → IsBatchOf before now ws → MayCommit homes ws
 may_commit before now ws homes is more most between some batch =
