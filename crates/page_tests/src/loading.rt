@@ -255,9 +255,9 @@ fn untold(alloc: Global) -> Result<Option<u64>, Memory> {
     Ok(None)
 }
 
-/// A load of these pages calls the disk nine times.
+/// A load of these pages calls the disk ten times.
 #[test]
 fn each_call_that_fails_is_told(rt: HostRuntime) -> Result<(), Fail> {
-    assert_eq!(rt; untold(rt.alloc())?, Some(10));
+    assert_eq!(rt; untold(rt.alloc())?, Some(11));
     Ok(())
 }
