@@ -4,8 +4,9 @@ use Rattle.std.proofs.Common.{◌≡◌, ◌+◌, ℕ, suc, List, Some, refl, sy
 use Rattle.ct_site.specs.FaultCounts.{rose_raised}
 use Rattle.ct_site.specs.Disks.{Beside, DiskView, IsSettled, leaves_none}
 use Rattle.pg_journal.specs.declared.faults.LoadFault.TheVariants.{Memory}
-use Rattle.pg_journal.specs.Recovered.{Alike}
 use Rattle.pg_journal.specs.laws.Recovered.{alike_itself}
+use Rattle.pg_keeper.specs.Loading.{AlikeOrOneMap}
+use Rattle.db_state.specs.Shapes.{IsStoreEntry}
 use Rattle.gen_script.specs.Scripts.{script}
 use Rattle.gen_script.specs.Summaries.{summary}
 use Rattle.db_console.specs.Generating.{Generates, HasHits, IsGenerated}
@@ -29,8 +30,8 @@ nothing_done image disk settled = (
   refl,
   record {
     beside = refl;
-    leaves = leaves_none disk (Alike image) (λ left is. alike_itself image left (settled.only left is));
-    kept = λ read. record { settled = settled; leaves = leaves_none disk (λ left. left ≡ image) settled.only };
+    leaves = leaves_none disk (AlikeOrOneMap IsStoreEntry image) (λ left is. inl (alike_itself image left (settled.only left is)));
+    kept = λ read needless. record { settled = settled; leaves = leaves_none disk (λ left. left ≡ image) settled.only };
     refused = λ same shut. let wrong : ⊥ = cc in absurd wrong;
   },
 )

@@ -1,6 +1,6 @@
 -- A run over the store of a site, from what loading and serving did.
 use Rattle.std.specs.Prelude.{Err, ◌++◌, ◌==◌, length}
-use Rattle.std.proofs.Common.{◌≡◌, ◌⊎◌, ◌+◌, ◌≤◌, ℕ, suc, Bool, true, false, List, [], Option, Some, None, refl, sym, ap, subst, inl, inr, ⊎_elim, ◌∙◌, arith, length-append}
+use Rattle.std.proofs.Common.{◌≡◌, ◌⊎◌, ◌+◌, ◌-◌, ◌≤◌, ℕ, suc, Bool, true, false, List, [], Option, Some, refl, sym, ap, subst, inl, inr, ◌∙◌, arith, length-append}
 use base.Fml.{GName}
 use Rattle.ct_base.specs.Told.{IsSaid}
 use Rattle.ct_base.specs.laws.Told.{with_suffix-nil}
@@ -8,7 +8,7 @@ use Rattle.ct_base.specs.Moments.{Passes}
 use Rattle.ct_base.specs.laws.Moments.{passes_more, passes_then}
 use Rattle.ct_base.specs.Causes.{Rose}
 use Rattle.ct_site.specs.FaultCounts.{rose_raised}
-use Rattle.ct_site.specs.Disks.{DiskView, Beside, IsSettled, Leaves}
+use Rattle.ct_site.specs.Disks.{DiskView, Beside, Leaves}
 use Rattle.ct_keep.specs.Content.{Content}
 use Rattle.ct_keep.specs.Changes.{HoldsWell}
 use Rattle.ct_keep.specs.laws.Composing.{same_lender, same_limit}
@@ -17,12 +17,14 @@ use Rattle.ct_keep.specs.KeeperStates.{no_counts}
 use Rattle.pg_journal.specs.declared.faults.LoadFault.{LoadFault}
 use Rattle.pg_journal.specs.declared.faults.LoadFault.TheVariants.{Memory, Disk, NotAStore}
 use Rattle.pg_journal.specs.Looking.{Loads}
-use Rattle.pg_journal.specs.Recovered.{Alike, IsStore, IsUnborn}
+use Rattle.pg_journal.specs.Recovered.{IsStore, IsUnborn}
+use Rattle.pg_directory.specs.Holding.{RecoversTo}
 use Rattle.pg_heap.specs.Heaps.{HeapState, HeapStands}
-use Rattle.pg_map.specs.Holding.{Recovers}
-use Rattle.pg_heap.specs.laws.Recovering.{load_passes, one_recovery}
-use Rattle.pg_keeper.specs.Loading.{HasNoStore}
+use Rattle.pg_heap.specs.laws.Recovering.{held_told}
+use Rattle.pg_journal.specs.Syncs.{SyncsAtMost}
+use Rattle.pg_keeper.specs.Loading.{AlikeOrOneMap, HasNoStore, NeedsNoDirectory, OnlyLoads}
 use Rattle.pg_keeper.specs.Paged.{told_content}
+use Rattle.pg_keeper.specs.laws.Loading.{load_passes, no_two_stores}
 use Rattle.db_engine.specs.Runs.{Turn, AllAllowed}
 use Rattle.db_looks.specs.laws.Composing.{over_before}
 use Rattle.db_state.specs.Shapes.{IsStoreEntry}
@@ -32,7 +34,7 @@ use Rattle.db_console.proofs.WorldLaws.{commits_before}
 use Rattle.db_console.specs.Asking.{AskedThen, Calls}
 use Rattle.db_console.specs.Views.{Shows, ToldEndOnce}
 use Rattle.db_console.specs.Table.{Because, Ends, Outcome, TellsPast, Completes, status_of, fault_of_ending}
-use Rattle.db_console.specs.Stores.{SiteFaultsBy, ServedHeap, TellsOfStore, store_view, status_of_load}
+use Rattle.db_console.specs.Stores.{LoadSyncs, SiteFaultsBy, ServedHeap, TellsOfStore, opening_view, store_view, status_of_load}
 use Rattle.db_console.specs.declared.endings.Ending.{Ending}
 use Rattle.db_console.specs.declared.endings.Ending.TheVariants.{Done, HearFault, SayFault, NoMemory, DiskFault, PastLimit}
 
@@ -98,19 +100,23 @@ outcome_before limit most old mid new ending opens o = record {
       };
 }
 
+-- a disk that stands for a heap tells what it holds
+pub told_loaded : (disk : DiskView) (heap : HeapState) (s : HeapStands disk heap) (m : Content) → s.held ≡ m → told_content disk.image ≡ Some m
+told_loaded disk heap s m same =
+    let told = s.holds.stands.settled.told in
+    ap told_content told ∙ ap Some (held_told disk heap s s.holds.stands.image told ∙ same)
+
 -- a store that was loaded
-pub opens_loaded : (old new : DiskView) (opened : ℕ) (image : List ℕ) (heap : HeapState) (store : ℕ) (name : GName) → IsSettled old image → Recovers image (Some heap.held) → HeapStands new heap → Leaves old new (Alike image)
-    → new.beside ≡ old.beside → new.faults ≡ old.faults → Opens (store_view (record old { syncs = opened }) heap store no_counts name) (store_view (record new { syncs = opened }) heap store no_counts name)
-opens_loaded old new opened image heap store name settled is stands leaves beside faults = record {
+pub opens_loaded : (old new : DiskView) (opened : ℕ) (image : List ℕ) (m : Content) (heap : HeapState) (store : ℕ) (name : GName) → RecoversTo image (Some m) → told_content new.image ≡ Some m → Leaves old new (AlikeOrOneMap IsStoreEntry image)
+    → new.beside ≡ old.beside → new.faults ≡ old.faults → Opens (opening_view (Some m) (record old { syncs = opened }) heap store name) (opening_view (told_content new.image) (record new { syncs = opened }) heap store name)
+opens_loaded old new opened image m heap store name is told leaves beside faults = record {
   beside = beside;
   fixed = refl;
   counts = refl;
   faults = faults;
   syncs = refl;
-  content = ap (λ (o : Option (List ℕ)). told_content o heap.held) stands.settled.told ∙ sym (ap (λ (o : Option (List ℕ)). told_content o heap.held) settled.told);
-  time = λ m holds.
-      let same : Some heap.held ≡ Some m = sym (ap (λ (o : Option (List ℕ)). told_content o heap.held) settled.told) ∙ holds in
-      passes_more _ _ _ _ (load_passes old new image (Some heap.held) is leaves) (λ stopped said p. (p.0 ∙ same, p.1));
+  content = told;
+  time = λ n holds. passes_more _ _ _ _ (load_passes IsStoreEntry old new image (Some m) is leaves) (λ stopped said p. (p.0 ∙ holds, p.1));
 }
 
 -- ---- what is served over a heap
@@ -119,11 +125,12 @@ pub same_name : (a b : GName) → Some a ≡ Some b → a ≡ b
 same_name a b e = cc
 
 pub served_over : (limit most store weight : ℕ) (old new : DiskView) (name last : GName) (heap later : HeapState) (counts : Counts) (ending : Ending)
-    → Outcome limit most (store_view old heap store no_counts name) (store_view new later weight counts last) ending → ServedHeap limit most store 0 heap old new ending
+    → Outcome limit most (store_view old heap store no_counts name) (store_view new later weight counts last) ending → ServedHeap limit most store 0 (told_content old.image) old new ending
 served_over limit most store weight old new name last heap later counts ending o = record {
   opened = old.syncs;
   loads = omega arith;
   name = name;
+  heap = heap;
   later = later;
   counts = counts;
   outcome =
@@ -131,15 +138,23 @@ served_over limit most store weight old new name last heap later counts ending o
       (subst (λ (w : ℕ). Outcome limit most (store_view old heap store no_counts name) (store_view new later w counts last) ending) (same_limit o.fixed) o);
 }
 
-pub served_before : (limit most store : ℕ) (old mid new : DiskView) (image : List ℕ) (heap : HeapState) (ending : Ending) → IsSettled old image → Recovers image (Some heap.held) → HeapStands mid heap → Leaves old mid (Alike image)
-    → mid.beside ≡ old.beside → mid.faults ≡ old.faults → mid.syncs ≤ old.syncs + 4 → ServedHeap limit most store 0 heap mid new ending → ServedHeap limit most store 4 heap old new ending
-served_before limit most store old mid new image heap ending settled is stands leaves beside faults few s = record {
+pub served_before : (limit most store loading : ℕ) (old mid new : DiskView) (image : List ℕ) (m : Content) (ending : Ending) → RecoversTo image (Some m) → told_content mid.image ≡ Some m → Leaves old mid (AlikeOrOneMap IsStoreEntry image)
+    → mid.beside ≡ old.beside → mid.faults ≡ old.faults → mid.syncs ≤ old.syncs + loading → ServedHeap limit most store 0 (told_content mid.image) mid new ending → ServedHeap limit most store loading (Some m) old new ending
+served_before limit most store loading old mid new image m ending is told leaves beside faults few s = record {
   opened = s.opened;
   loads = omega (arith, few, s.loads);
   name = s.name;
+  heap = s.heap;
   later = s.later;
   counts = s.counts;
-  outcome = outcome_before limit most _ _ _ ending (opens_loaded old mid s.opened image heap store s.name settled is stands leaves beside faults) s.outcome;
+  outcome = outcome_before limit most _ _ _ ending (opens_loaded old mid s.opened image m s.heap store s.name is told leaves beside faults) s.outcome;
+}
+
+-- how many syncs loading took
+pub load_syncs : (image : List ℕ) (old mid : DiskView) → SyncsAtMost 8 old mid → (NeedsNoDirectory IsStoreEntry image → OnlyLoads image old mid) → LoadSyncs image (mid.syncs - old.syncs)
+load_syncs image old mid most needless = record {
+  most = omega (arith, most);
+  needless = λ needs. let few = (needless needs).syncs in omega (arith, few);
 }
 
 -- ---- statuses
@@ -171,11 +186,6 @@ load_status Memory other = inl refl
 load_status Disk other = inr refl
 load_status NotAStore other = absurd (other refl)
 
-pub no_two_stores : (image : List ℕ) (m : Content) → Recovers image (Some m) → HoldsWell IsStoreEntry m → HasNoStore IsStoreEntry image → ⊥
-no_two_stores image m is well none = ⊎_elim
-    (λ nothing. let e : Some m ≡ None = one_recovery image (Some m) None is nothing in cc)
-    (λ other. let e : Some other.0 ≡ Some m = one_recovery image (Some other.0) (Some m) other.1 is in let same : m ≡ other.0 = cc in other.2 (subst (HoldsWell IsStoreEntry) same well)) none
-
 -- what the status of a load tells of the file
 pub load_tells : (image : List ℕ) (fault : LoadFault) → (fault ≡ NotAStore → HasNoStore IsStoreEntry image) → (fault ≡ Memory → IsUnborn image ⊎ IsStore image) → TellsOfStore image (status_of_load fault)
 load_tells image Memory refused known = record { refused = λ is. let wrong : ⊥ = omega (arith, is) in absurd wrong; foreign = λ none. inl refl; unmarked = λ none. absurd (none (known refl)) }
@@ -183,10 +193,10 @@ load_tells image Disk refused known = record { refused = λ is. let wrong : ⊥ 
 load_tells image NotAStore refused known = record { refused = λ is. refused refl; foreign = λ none. inr (inr refl); unmarked = λ none. inr refl }
 
 -- and that of serving over it
-pub serve_tells : (image : List ℕ) (m : Content) (ending : Ending) (status : ℕ) → status ≡ status_of ending → Recovers image (Some m) → HoldsWell IsStoreEntry m → IsUnborn image ⊎ IsStore image → TellsOfStore image status
+pub serve_tells : (image : List ℕ) (m : Content) (ending : Ending) (status : ℕ) → status ≡ status_of ending → RecoversTo image (Some m) → HoldsWell IsStoreEntry m → IsUnborn image ⊎ IsStore image → TellsOfStore image status
 serve_tells image m ending status is holds well known = record {
   refused = λ seven. absurd (not_seven ending (sym is ∙ seven));
-  foreign = λ none. absurd (no_two_stores image m holds well none);
+  foreign = λ none. absurd (no_two_stores IsStoreEntry image m holds well none);
   unmarked = λ none. absurd (none known);
 }
 

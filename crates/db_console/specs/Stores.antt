@@ -1,5 +1,6 @@
 -- How a run over the store of a site ends, by its status.
-use Rattle.std.specs.Prelude.{ℕ, ◌≡◌, ◌==◌, ◌+◌, ◌≤◌, ◌⊎◌, List, Some, refl}
+use Rattle.std.specs.Prelude.{ℕ, ◌≡◌, ◌==◌, ◌+◌, ◌≤◌, ◌⊎◌, List, Option, Some, refl}
+use Rattle.std.proofs.Common.{inr}
 use base.Fml.{GName}
 use Rattle.ct_base.specs.Causes.{Rose}
 use Rattle.ct_site.specs.Disks.{DiskView, IsSettled, Leaves}
@@ -10,10 +11,11 @@ use Rattle.ct_keep.specs.KeeperStates.{no_counts}
 use Rattle.pg_journal.specs.declared.faults.LoadFault.{LoadFault}
 use Rattle.pg_journal.specs.declared.faults.LoadFault.TheVariants.{Memory, Disk, NotAStore}
 use Rattle.pg_journal.specs.Recovered.{Alike, HasNoOpenGate, IsOnlyRead, IsStore, IsUnborn}
+use Rattle.pg_directory.specs.Holding.{RecoversTo}
 use Rattle.pg_heap.specs.Heaps.{HeapState}
-use Rattle.pg_map.specs.Holding.{Recovers}
-use Rattle.pg_keeper.specs.Loading.{HasNoStore, StaysAs}
+use Rattle.pg_keeper.specs.Loading.{AlikeOrOneMap, HasNoStore, NeedsNoDirectory, StaysAs}
 use Rattle.pg_keeper.specs.Paged.{paged_view}
+use Rattle.pg_keeper.specs.laws.Loading.{foreign_moments}
 use Rattle.db_arguments.specs.Arguments.{AsksFor, AsksForRows}
 use Rattle.db_state.specs.Shapes.{IsStoreEntry}
 use Rattle.db_console.specs.Generating.{Generates}
@@ -27,23 +29,28 @@ pub record SiteFaultsBy (status : ℕ) (old new : DiskView) : Type 0 where
   pub say : new.beside.say_faults ≡ counted (status == 4) old.beside.say_faults
   pub disk : new.faults ≡ counted (status == 6) old.faults
 
--- a keeper over the disk of a site, with what its heap holds
+-- a keeper over the disk of a site, with its heap
 abbrev pub store_view : DiskView → HeapState → ℕ → Counts → GName → KeeperView
 store_view disk heap limit counts name = paged_view disk heap IsStoreEntry limit counts name
 
--- The script was served over a heap, which then was this one. Its content may weigh `store`. Loading it took at most `loading`
--- syncs. `opened` is the disk's count then, and the outcome counts on from there.
-pub record ServedHeap (limit most store loading : ℕ) (heap : HeapState) (old new : DiskView) (ending : Ending) : Type 0 where
+-- The same with this content, before its first call. Where the heap is still to be loaded, the content is the map that the image recovers to.
+abbrev pub opening_view : Option Content → DiskView → HeapState → ℕ → GName → KeeperView
+opening_view content disk heap limit name = record (store_view disk heap limit no_counts name) { content = content }
+
+-- The script was served over a heap of this content, and then over a later one. The content may weigh `store`. Loading the heap took at
+-- most `loading` syncs. `opened` is the disk's count then, and the outcome counts on from there.
+pub record ServedHeap (limit most store loading : ℕ) (content : Option Content) (old new : DiskView) (ending : Ending) : Type 0 where
   pub opened : ℕ
   pub loads : opened ≤ old.syncs + loading
   pub name : GName
+  pub heap : HeapState
   pub later : HeapState
   pub counts : Counts
-  pub outcome : Outcome limit most (store_view (record old { syncs = opened }) heap store no_counts name) (store_view new later store counts name) ending
+  pub outcome : Outcome limit most (opening_view content (record old { syncs = opened }) heap store name) (store_view new later store counts name) ending
 
 -- the same, within the limits of a run, by its status
-abbrev pub ServesHeap : ℕ → ℕ → HeapState → DiskView → DiskView → ℕ → Type 0
-ServesHeap store loading heap old new status = (ending : Ending) × (status ≡ status_of ending) × ServedHeap statement_limit script_limit store loading heap old new ending
+abbrev pub ServesHeap : ℕ → ℕ → Option Content → DiskView → DiskView → ℕ → Type 0
+ServesHeap store loading content old new status = (ending : Ending) × (status ≡ status_of ending) × ServedHeap statement_limit script_limit store loading content old new ending
 
 -- ---- loading
 
@@ -52,14 +59,19 @@ status_of_load Memory = 5
 status_of_load Disk = 6
 status_of_load NotAStore = 7
 
--- The store couldn't be loaded: nothing was heard or said. What a crash left meanwhile, or leaves now, recovers to what the image did.
--- A file that isn't unborn and has no batch under way is unchanged, and so it was at each moment. A file that is refused is so too, unless a
--- batch was under way, which was put home.
+-- The store couldn't be loaded: nothing was heard or said. What a crash left meanwhile, or leaves now, recovers to what the image did: to the
+-- same pages, or, where the store was to get a directory, to pages that hold the same map. A file that isn't unborn, has no batch under way and
+-- needs no directory is unchanged, and so it was at each moment. A file that is refused is so too, unless a batch was under way, which was put
+-- home.
 pub record NotLoaded (image : List ℕ) (fault : LoadFault) (old new : DiskView) : Type 0 where
   pub beside : new.beside ≡ old.beside
-  pub leaves : Leaves old new (Alike image)
-  pub kept : IsOnlyRead image → StaysAs image old new
+  pub leaves : Leaves old new (AlikeOrOneMap IsStoreEntry image)
+  pub kept : IsOnlyRead image → NeedsNoDirectory IsStoreEntry image → StaysAs image old new
   pub refused : fault ≡ NotAStore → HasNoOpenGate image → StaysAs image old new
+
+-- So of a file that is no store: what a crash left recovers to the same pages, and one that isn't unborn and has no batch under way is unchanged.
+foreign_same : (image : List ℕ) (fault : LoadFault) (old new : DiskView) → HasNoStore IsStoreEntry image → NotLoaded image fault old new → Leaves old new (Alike image) × (IsOnlyRead image → StaysAs image old new)
+foreign_same image fault old new none n = (foreign_moments IsStoreEntry old new image none n.leaves, λ only. n.kept only (inr (inr none)))
 
 -- a run whose store couldn't be loaded, by its status
 abbrev pub FailsToLoad : List ℕ → DiskView → DiskView → ℕ → Type 0
@@ -67,16 +79,21 @@ FailsToLoad image old new status = (fault : LoadFault) × (status ≡ status_of_
 
 -- ---- a run
 
+-- Loading took so many syncs: four at most, and four more where the store needed a directory.
+pub record LoadSyncs (image : List ℕ) (loading : ℕ) : Type 0 where
+  pub most : loading ≤ 8
+  pub needless : NeedsNoDirectory IsStoreEntry image → loading ≤ 4
+
 -- What a run did with this status over an image that recovers to the map m. It served the script over a heap that holds m, which it loaded
--- with at most four syncs; or there was no memory to load it, or the disk failed then.
+-- with so many syncs; or there was no memory to load it, or the disk failed then.
 abbrev pub RanOver : ℕ → List ℕ → Content → DiskView → DiskView → ℕ → Type 0
 RanOver store image m old new status =
-    ((heap : HeapState) × (heap.held ≡ m) × ServesHeap store 4 heap old new status)
+    ((loading : ℕ) × LoadSyncs image loading × ServesHeap store loading (Some m) old new status)
     ⊎ (((status ≡ 5) ⊎ (status ≡ 6)) × FailsToLoad image old new status)
 
 -- what holds of each image that recovers to a map, where nothing was pending
 abbrev pub OverStores : DiskView → (List ℕ → Content → Type 0) → Type 0
-OverStores disk holds = (image : List ℕ) (m : Content) → IsSettled disk image → Recovers image (Some m) → HoldsWell IsStoreEntry m → holds image m
+OverStores disk holds = (image : List ℕ) (m : Content) → IsSettled disk image → RecoversTo image (Some m) → HoldsWell IsStoreEntry m → holds image m
 
 -- what holds of each image that is no store
 abbrev pub OverForeign : DiskView → (List ℕ → Type 0) → Type 0

@@ -3,7 +3,7 @@
 ghost use Rattle.std.specs.Prelude.{◌≡◌, ◌≤◌, ◌⊎◌, map};
 ghost use Rattle.std.specs.String.{string_bytes};
 ghost use Rattle.db_state.specs.Shapes.{AcceptsStatements, IsStoreEntry};
-ghost use Rattle.pg_keeper.specs.Paged.{IsUsable};
+ghost use Rattle.pg_keeper.specs.Paged.{IsUsable, told_content};
 ghost use Rattle.db_arguments.specs.Arguments.{AskForNothing};
 ghost use Rattle.db_console.specs.Views.{DiskRose};
 ghost use Rattle.db_console.specs.Generating.{Generates};
@@ -83,7 +83,7 @@ fn serve_heap<R: Threads + Sync, S: Site>(
     site: &mut S,
 ) -> u8
     requires { IsUsable (S.disk site.old) heap IsStoreEntry }
-    ensures table { ServesHeap limit 0 heap (S.disk site.old) (S.disk site.new) result }
+    ensures table { ServesHeap limit 0 (told_content (S.disk site.old).image) (S.disk site.old) (S.disk site.new) result }
     ensures faults { SiteFaultsBy result (S.disk site.old) (S.disk site.new) }
     ensures memory { result ≡ 5 → (S.disk site.new).beside ≡ (S.disk site.old).beside }
     ensures past { TellsPast script_limit result (S.disk site.old).beside (S.disk site.new).beside }

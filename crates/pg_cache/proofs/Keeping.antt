@@ -1,98 +1,109 @@
 -- What is kept after each change of a cache.
-use Rattle.std.proofs.Common.{◌≡◌, ◌≢◌, ◌⊎◌, inl, inr, ⊎_elim, ℕ, Bool, true, false, nat_eq, List, [], ◌∷◌, Option, Some, None, Result, Ok, Err, refl, sym, ap, subst, ◌∙◌}
-use Rattle.std.specs.Prelude.{is_some, IsSome, IsOk}
-use Rattle.std.specs.Result.{OnOk, OnErr}
-use Rattle.std.specs.List.{Contains, AllByRecursion}
-use Rattle.std.specs.Cmp.{nat_eq_equiv}
-use Rattle.std.specs.Map.{lookup, lookup_entry, remove_entry}
-use Rattle.std.proofs.lemmas.Map.{lookup-remove_entry, none_passes_from_lookup}
+use Rattle.std.proofs.Common.{◌≡◌, ◌≢◌, ◌⊎◌, inl, inr, ⊎_elim, ℕ, ◌<◌, ◌≤◌, ◌==◌, Bool, true, false, cond, List, [], ◌∷◌, ◌++◌, length, map, take, get_or, set, refl, sym, ap, subst, ◌∙◌, arith}
+use Rattle.std.specs.List.{Contains, list_any}
 use Rattle.std.proofs.lemmas.Bool.{eqb-true, eq-eqb, false≢true}
-use Rattle.lru.specs.LruCache.{LruCache, lru_cache, promoted, put_entries, IsValid}
-use Rattle.lru.proofs.CallerLemmas.{Contains-promoted, Contains-put_entries, Contains-lookup_entry, Contains-remove_entry}
+use Rattle.std.proofs.lemmas.List.Elements.{All-contains, All-contains_itself, All-set, All-weaker, Contains-get_or, Contains-push_cases}
+use Rattle.std.proofs.lemmas.List.Folds.{list_any_at}
+use Rattle.std.proofs.lemmas.List.{get_or-map, length-map}
 use Rattle.lru.proofs.Splits.{Contains-cons, Contains-nil}
 use Rattle.pg_journal.specs.Pages.{Numbered}
-use Rattle.pg_cache.specs.Caches.{HasNoOther, HasOnlyOf, Renews}
+use Rattle.pg_cache.specs.Caches.{renewed, Keeps, KeepsNone, HasNoOther, WasKept, Renews}
 
-pub promoted_kept : (n : ℕ) (old new : List Numbered) → new ≡ promoted (nat_eq n) old → HasNoOther old new
-promoted_kept n old new is = record { each = λ w has. Contains-promoted (nat_eq n) old w (subst (λ (l : List Numbered). Contains l w) is has) }
+-- Each page that is kept now was kept before, or is this one.
+pub record HasOnlyOf (number : ℕ) (bytes : List ℕ) (old new : List Numbered) : Type 0 where
+  pub each : (w : Numbered) → Keeps new w → Keeps old w ⊎ (w ≡ (number, bytes))
 
-module _ (n : ℕ) (bytes : List ℕ) (old new : LruCache ℕ (List ℕ)) where
-  put_one : new ≡ lru_cache (put_entries nat_eq old n bytes) old.cap → HasOnlyOf n bytes old.entries new.entries
-  put_one is = record {
-    each = λ w has. ⊎_elim
-        (λ was. inl was)
-        (λ put. inr (⊎_elim
-        (λ key. ap (λ (k : ℕ). (k, w.1)) key ∙ ap (λ (b : List ℕ). (n, b)) put.0)
-        (λ there. ap (λ (k : ℕ). (k, w.1)) (sym (eqb-true n w.0 there.2)) ∙ ap (λ (b : List ℕ). (n, b)) put.0) put.1))
-        (Contains-put_entries nat_eq old n bytes w (subst (λ (l : List Numbered). Contains l w) (ap (λ (c : LruCache ℕ (List ℕ)). c.entries) is) has));
-  }
+-- ---- one place more, or one place changed
 
-  pub put_kept : {T E : Type 0} (r : Result T E) → OnOk r (new ≡ lru_cache (put_entries nat_eq old n bytes) old.cap) → OnErr r (new ≡ old) → HasOnlyOf n bytes old.entries new.entries
-  put_kept (Ok x) is same = put_one is
-  put_kept (Err x) is same = record { each = λ w has. inl (subst (λ (c : LruCache ℕ (List ℕ)). Contains c.entries w) same has) }
+set_cases : (l : List Numbered) (at : ℕ) (v w : Numbered) → Contains (set l at v) w → Contains l w ⊎ (w ≡ v)
+set_cases l at v w has =
+    let itself : v ≡ v = refl in
+    All-contains (λ (x : Numbered). Contains l x ⊎ (x ≡ v)) (set l at v) w
+    (All-set (λ (x : Numbered). Contains l x ⊎ (x ≡ v)) l at v (inr itself)
+    (All-weaker (Contains l) (λ (x : Numbered). Contains l x ⊎ (x ≡ v)) (λ x there. inl there) l (All-contains_itself l))) has
 
--- ---- a page in place of the one that was kept
+pub keeps_pushed : (l : List Numbered) (v : Numbered) → v.0 ≡ 0 → HasNoOther l (l ++ v ∷ [])
+keeps_pushed l v zero_ = record {
+  each = λ w has. ⊎_elim
+      (λ there. (there, has.1))
+      (λ is. let n = ap (λ (x : Numbered). x.0) is in let some = has.1 in absurd (omega (arith, n, some, zero_)))
+      (Contains-push_cases l v w has.0);
+}
 
-none_passes : (n : ℕ) (es : List Numbered) (w : Numbered) → AllByRecursion (λ (e : Numbered). nat_eq n e.0 ≡ false) es → Contains es w → nat_eq n w.0 ≡ false
-none_passes n [] w none has = absurd (Contains-nil w has)
-none_passes n (e ∷ es) w none has = elim (Contains-cons e es w has) [
-  | inl is ↦ subst (λ (v : Numbered). nat_eq n v.0 ≡ false) is none.0
-  | inr more ↦ none_passes n es w none.1 more
-]
+-- a place without a page
+pub keeps_emptied : (l : List Numbered) (at : ℕ) (v : Numbered) → v.0 ≡ 0 → HasNoOther l (set l at v)
+keeps_emptied l at v zero_ = record {
+  each = λ w has. ⊎_elim
+      (λ there. (there, has.1))
+      (λ is. let n = ap (λ (x : Numbered). x.0) is in let some = has.1 in absurd (omega (arith, n, some, zero_)))
+      (set_cases l at v w has.0);
+}
 
-not_there : (n : ℕ) (es : List Numbered) → lookup (nat_eq n) es ≡ None → (w : Numbered) → Contains es w → w.0 ≢ n
-not_there n es none w has = λ is. false≢true (sym (none_passes n es w (none_passes_from_lookup (nat_eq n) es none) has) ∙ eq-eqb n w.0 (sym is))
+-- a place with the page that it has
+pub keeps_same : (l : List Numbered) (at : ℕ) (v : Numbered) → at < length l → v ≡ get_or l at v → HasNoOther l (set l at v)
+keeps_same l at v less own = record {
+  each = λ w has. ⊎_elim
+      (λ there. (there, has.1))
+      (λ is. (subst (Contains l) (sym is) (at, less, sym own), has.1))
+      (set_cases l at v w has.0);
+}
 
--- the pair of a number that is kept, and the others
-pub record Parts (n : ℕ) (es : List Numbered) : Type 0 where
-  pub bytes : List ℕ
-  pub entry : lookup_entry (nat_eq n) es ≡ Some (n, bytes)
-  pub has : Contains es (n, bytes)
+-- a place with another page
+pub keeps_put : (l : List Numbered) (at n : ℕ) (v : Numbered) → v.0 ≡ n → HasOnlyOf n v.1 l (set l at v)
+keeps_put l at n v is = record {
+  each = λ w has. ⊎_elim
+      (λ there. inl (there, has.1))
+      (λ same. inr (same ∙ ap (λ (k : ℕ). (k, v.1)) is))
+      (set_cases l at v w has.0);
+}
 
-parts : (n : ℕ) (es : List Numbered) (e : Numbered) → lookup_entry (nat_eq n) es ≡ Some e → Parts n es
-parts n es e is =
-    let there = Contains-lookup_entry (nat_eq n) es e is in
-    let same : e ≡ (n, e.1) = ap (λ (k : ℕ). (k, e.1)) (sym (eqb-true n e.0 there.1)) in
-    record { bytes = e.1; entry = is ∙ ap Some same; has = subst (Contains es) same there.0 }
+-- one place, without a page
+pub keeps_first : (l : List Numbered) (v : Numbered) → v.0 ≡ 0 → KeepsNone (set (take 1 l) 0 v)
+keeps_first [] v zero_ = record { none = λ w has. absurd (let less = has.0.1 in omega (arith, less)) }
+keeps_first (x ∷ xs) v zero_ = record {
+  none = λ w has. ⊎_elim
+      (λ is. let n = ap (λ (x : Numbered). x.0) is in let some = has.1 in omega (arith, n, some, zero_))
+      (λ more. Contains-nil w more)
+      (Contains-cons v [] w has.0);
+}
 
-entry_none : (n : ℕ) (es : List Numbered) → lookup_entry (nat_eq n) es ≡ None → lookup (nat_eq n) es ≡ None
-entry_none n [] is = refl
-entry_none n (e ∷ es) is = (elim (nat_eq n e.0) as (λ (b : Bool). nat_eq n e.0 ≡ b → lookup (nat_eq n) (e ∷ es) ≡ None) [
-  | true ↦ λ t. let h = rw t at is in cc
-  | false ↦ λ t. rw t (entry_none n es (rw t at is))
-]) refl
+-- ---- pages in place of those that were kept
 
-module _ (n : ℕ) (bytes : List ℕ) (old : LruCache ℕ (List ℕ)) where
-  pub replaced : (new : List Numbered) → IsValid nat_eq old → is_some (lookup (nat_eq n) old.entries) ≡ true → new ≡ put_entries nat_eq old n bytes → Renews n bytes old.entries new
-  replaced new valid there is = of (lookup_entry (nat_eq n) old.entries) refl
-    where
-      apart : (w : Numbered) → Contains (remove_entry (nat_eq n) old.entries) w → w.0 ≢ n
-      apart w has = not_there n (remove_entry (nat_eq n) old.entries)
-          (lookup-remove_entry nat_eq_equiv (nat_eq n) (λ x y one. ap (λ (k : ℕ). nat_eq k y) (eqb-true n x one)) n old.entries valid.0 ∙ rw (eq-eqb n n refl) refl) w has
+-- an element that a function made of another one
+pub record Made (f : Numbered → Numbered) (l : List Numbered) (w : Numbered) : Type 0 where
+  pub of : Numbered
+  pub has : Contains l of
+  pub is : w ≡ f of
 
-      of : (o : Option Numbered) → lookup_entry (nat_eq n) old.entries ≡ o → Renews n bytes old.entries new
-      of None none = let l = entry_none n old.entries none in absurd (false≢true (ap is_some (sym l) ∙ there))
-      of (Some e) some =
-          let p = parts n old.entries e some in
-          let now : new ≡ (n, bytes) ∷ remove_entry (nat_eq n) old.entries = is ∙ rw p.entry refl in
-          record {
-            each = λ w has. elim (Contains-cons (n, bytes) (remove_entry (nat_eq n) old.entries) w (subst (λ (l : List Numbered). Contains l w) now has)) [
-              | inl same ↦ inr (sym same, record { bytes = p.bytes; has = p.has })
-              | inr more ↦ inl (Contains-remove_entry (nat_eq n) old.entries w more, apart w more)
-            ];
-          }
+made_of : (f : Numbered → Numbered) (l : List Numbered) (w : Numbered) → Contains (map f l) w → Made f l w
+made_of f l w has =
+    let count = length-map l f in
+    let less : has.0 < length l = let within = has.1 in omega (arith, within, count) in
+    record { of = get_or l has.0 (0, []); has = Contains-get_or l has.0 (0, []) less; is = sym has.2 ∙ get_or-map f l has.0 (0, []) w less }
 
-  pub untouched : (new : List Numbered) → is_some (lookup (nat_eq n) old.entries) ≡ false → new ≡ old.entries → Renews n bytes old.entries new
-  untouched new none is = record {
-    each = λ w has. inl (subst (λ (l : List Numbered). Contains l w) is has, not_there n old.entries (absent (lookup (nat_eq n) old.entries) none) w (subst (λ (l : List Numbered). Contains l w) is has));
-  }
-    where
-      absent : (o : Option (List ℕ)) → is_some o ≡ false → o ≡ None
-      absent None no_ = refl
-      absent (Some x) no_ = absurd (false≢true (sym no_))
+pub each_renewed : (n : ℕ) (bytes : List ℕ) (l new : List Numbered) → new ≡ map (renewed n bytes) l → Renews n bytes l new
+each_renewed n bytes l new is = record {
+  each = λ w has.
+      let m = made_of (renewed n bytes) l w (subst (λ (x : List Numbered). Contains x w) is has.0) in
+      of w has.1 m (m.of.0 == n) refl;
+}
+  where
+    of : (w : Numbered) → 1 ≤ w.0 → (m : Made (renewed n bytes) l w) → (b : Bool) → (m.of.0 == n) ≡ b → (Keeps l w × (w.0 ≢ n)) ⊎ ((w ≡ (n, bytes)) × WasKept l n)
+    of w some m true is =
+        let one : w ≡ (n, bytes) = m.is ∙ ap (λ (b : Bool). cond b (n, bytes) m.of) is in
+        let number = eqb-true m.of.0 n is in
+        let own = ap (λ (x : Numbered). x.0) one in
+        inr (one, record { bytes = m.of.1; has = (subst (Contains l) (ap (λ (k : ℕ). (k, m.of.1)) number) m.has, omega (arith, some, own)) })
+    of w some m false is =
+        let one : w ≡ m.of = m.is ∙ ap (λ (b : Bool). cond b (n, bytes) m.of) is in
+        inl ((subst (Contains l) (sym one) m.has, some), λ same. false≢true (sym is ∙ eq-eqb m.of.0 n (sym (ap (λ (x : Numbered). x.0) one) ∙ same)))
 
-  -- what is there is put with no memory
-  pub put_there : {T E : Type 0} (r : Result T E) (new : LruCache ℕ (List ℕ)) → OnOk r (new ≡ lru_cache (put_entries nat_eq old n bytes) old.cap) → (IsSome (lookup (nat_eq n) old.entries) → IsOk r) → is_some (lookup (nat_eq n) old.entries) ≡ true
-      → new.entries ≡ put_entries nat_eq old n bytes
-  put_there (Ok x) new put ok there = ap (λ (c : LruCache ℕ (List ℕ)). c.entries) put
-  put_there (Err x) new put ok there = absurd (false≢true (ok there))
+pub none_to_renew : (n : ℕ) (bytes : List ℕ) (l : List Numbered) → list_any (λ (w : Numbered). w.0 == n) l ≡ false → Renews n bytes l l
+none_to_renew n bytes l none = record {
+  each = λ w has. inl (
+    has,
+    λ same.
+        let at = has.0 in
+        false≢true (sym none ∙ list_any_at (λ (v : Numbered). v.0 == n) l at.0 w at.1 (ap (λ (v : Numbered). v.0 == n) at.2 ∙ eq-eqb w.0 n same)),
+  );
+}

@@ -1,17 +1,16 @@
 -- A cache keeps pages of the disk: over reads, and over a commit.
-use Rattle.std.proofs.Common.{◌≡◌, ◌⊎◌, inl, inr, ⊎_elim, ℕ, zero, suc, ◌+◌, ◌-◌, ◌*◌, ◌≤◌, ◌<◌, ◌==◌, Bool, true, false, cond, nat_eq, List, [], ◌∷◌, length, get_or, Option, Some, None, refl, sym, ap, subst, ◌∙◌, arith}
+use Rattle.std.proofs.Common.{◌≡◌, inl, inr, ⊎_elim, ℕ, zero, suc, ◌+◌, ◌-◌, ◌*◌, ◌≤◌, ◌<◌, ◌==◌, Bool, true, false, cond, List, [], ◌∷◌, length, get_or, set, Option, Some, None, refl, sym, ap, subst, ◌∙◌, arith}
 use Rattle.std.specs.List.{Contains}
-use Rattle.std.specs.Map.{lookup}
 use Rattle.std.proofs.lemmas.Bool.{eqb-true, eq-eqb}
-use Rattle.lru.proofs.CallerLemmas.{Contains-lookup}
+use Rattle.std.proofs.lemmas.List.{get_or-set_same}
 use Rattle.lru.proofs.Splits.{Contains-cons, Contains-nil}
 use Rattle.ct_site.specs.Disks.{DiskView, IsSame}
 use Rattle.ct_site.specs.Lengths.{IsWithin}
-use Rattle.ct_site.specs.laws.Calls.{settled_same}
-use Rattle.pg_journal.specs.Pages.{Numbered, Has, AreBetween, page, with_page, put_on, pages_from, homes_in, homes_of, home, changed}
+use Rattle.pg_journal.specs.Pages.{Numbered, Has, AreBetween, page, with_page, put_on, pages_from, homes_in, home, changed}
 use Rattle.pg_journal.specs.Standing.{DiskStands}
-use Rattle.pg_cache.specs.laws.Caches.{count_of_pages, length-from, one_image, one_pages, stands_same}
-use Rattle.pg_cache.specs.Caches.{HasNoOther, HasOnlyOf, WasKept, RenewsAll, Mirrors, IsCacheOf}
+use Rattle.pg_cache.specs.laws.Caches.{count_of_pages, length-from, one_image, one_pages, same_cache, stands_same}
+use Rattle.pg_cache.specs.Caches.{bytes_at, Keeps, KeepsNone, HasNoOther, WasKept, RenewsAll, Mirrors, IsCacheOf}
+use Rattle.pg_cache.proofs.Keeping.{HasOnlyOf, keeps_emptied, keeps_put, keeps_same}
 
 -- ---- the pages that a disk stands for
 
@@ -41,12 +40,6 @@ within disk homes number cache is less = record {
 
 -- ---- reads
 
--- a page that is kept is that of its number
-pub kept_page : (disk : DiskView) (homes number : ℕ) (cache : List Numbered) (bytes : List ℕ) (pages : List (List ℕ)) → IsCacheOf disk homes cache → Some bytes ≡ lookup (nat_eq number) cache → DiskStands disk homes pages → bytes ≡ home pages number
-kept_page disk homes number cache bytes pages is found st =
-    let there = Contains-lookup (nat_eq number) cache bytes (sym found) in
-    (is.mirrors pages st).same (there.0, bytes) there.1 ∙ ap (home pages) (sym (eqb-true number there.0 there.2))
-
 fewer : (old new : List Numbered) (pages : List (List ℕ)) → HasNoOther old new → Mirrors old pages → Mirrors new pages
 fewer old new pages less m = record {
   low = λ w has. m.low w (less.each w has);
@@ -56,6 +49,23 @@ fewer old new pages less m = record {
 
 pub kept_fewer : (disk : DiskView) (homes : ℕ) (old new : List Numbered) → HasNoOther old new → IsCacheOf disk homes old → IsCacheOf disk homes new
 kept_fewer disk homes old new less is = record { stands = is.stands; mirrors = λ pages st. fewer old new pages less (is.mirrors pages st) }
+
+-- the page that stands at a place
+pub found_page : (disk : DiskView) (homes number at : ℕ) (l : List Numbered) (v : Numbered) (pages : List (List ℕ)) → IsCacheOf disk homes l → at < length l → v ≡ get_or l at v → v.0 ≡ number → 2 ≤ number → DiskStands disk homes pages
+    → bytes_at (set l at v) at ≡ home pages number
+found_page disk homes number at l v pages is less own named least st =
+    ap (λ (w : Numbered). w.1) (get_or-set_same l at v (0, []) less) ∙ (is.mirrors pages st).same v ((at, less, sym own), omega (arith, named, least)) ∙ ap (home pages) named
+
+pub found_cache : (disk : DiskView) (homes at : ℕ) (l : List Numbered) (v : Numbered) → IsCacheOf disk homes l → at < length l → v ≡ get_or l at v → IsCacheOf disk homes (set l at v)
+found_cache disk homes at l v is less own = kept_fewer disk homes l (set l at v) (keeps_same l at v less own) is
+
+-- what stands after a place for a page was found
+pub placed : (disk : DiskView) (homes : ℕ) (old mid l : List Numbered) → IsCacheOf disk homes old → HasNoOther old mid → l ≡ mid → IsCacheOf disk homes l
+placed disk homes old mid l is less same = subst (IsCacheOf disk homes) (sym same) (kept_fewer disk homes old mid less is)
+
+-- the page couldn't be read
+pub failed_cache : (old new : DiskView) (homes at : ℕ) (l : List Numbered) (v : Numbered) → IsCacheOf old homes l → IsSame old new → v.0 ≡ 0 → IsCacheOf new homes (set l at v)
+failed_cache old new homes at l v is same none = same_cache old new homes (set l at v) same (kept_fewer old homes l (set l at v) (keeps_emptied l at v none) is)
 
 one_more : (number : ℕ) (bytes : List ℕ) (old new : List Numbered) (pages : List (List ℕ)) → HasOnlyOf number bytes old new → 2 ≤ number → number < 2 + length pages → bytes ≡ home pages number → Mirrors old pages → Mirrors new pages
 one_more number bytes old new pages more least less is m = record {
@@ -77,8 +87,14 @@ read_more old new homes number bytes before after is same least less read more =
       one_more number bytes before after pages more least (omega (arith, count, least, less)) (read was.image was.settled.told ∙ sym (home_read old homes number pages was least less)) (is.mirrors pages was);
 }
 
-pub page_read : (old : DiskView) (homes number : ℕ) (bytes : List ℕ) (pages : List (List ℕ)) → ((image : List ℕ) → old.image ≡ Some image → bytes ≡ page image number) → 2 ≤ number → number < homes → DiskStands old homes pages → bytes ≡ home pages number
-page_read old homes number bytes pages read least less st = read st.image st.settled.told ∙ sym (home_read old homes number pages st least less)
+pub read_cache : (old new : DiskView) (homes number at : ℕ) (l : List Numbered) (v : Numbered) → IsCacheOf old homes l → IsSame old new → 2 ≤ number → number < homes → v.0 ≡ number
+    → ((image : List ℕ) → old.image ≡ Some image → v.1 ≡ page image number) → IsCacheOf new homes (set l at v)
+read_cache old new homes number at l v is same least less named read = read_more old new homes number v.1 l (set l at v) is same least less read (keeps_put l at number v named)
+
+pub page_read : (old : DiskView) (homes number at : ℕ) (l : List Numbered) (v : Numbered) (pages : List (List ℕ)) → at < length l → ((image : List ℕ) → old.image ≡ Some image → v.1 ≡ page image number) → 2 ≤ number → number < homes → DiskStands old homes pages
+    → bytes_at (set l at v) at ≡ home pages number
+page_read old homes number at l v pages within read least less st =
+    ap (λ (w : Numbered). w.1) (get_or-set_same l at v (0, []) within) ∙ read st.image st.settled.told ∙ sym (home_read old homes number pages st least less)
 
 -- ---- a commit
 
@@ -104,29 +120,29 @@ put_on_has low end (v ∷ vs) f w between has = elim (Contains-cons v vs w has) 
 
 -- what the cache keeps after a commit is of the pages that the batch makes
 pub committed : (end homes after : ℕ) (ws before mid now : List Numbered) (pages news : List (List ℕ)) → AreBetween 2 end ws → Mirrors before pages → length pages ≡ homes - 2 → length news ≡ after - 2 → news ≡ changed ws pages
-    → RenewsAll ws before mid → HasNoOther mid now → (after < homes → now ≡ []) → Mirrors now news
+    → RenewsAll ws before mid → HasNoOther mid now → (after < homes → KeepsNone now) → Mirrors now news
 committed end homes after ws before mid now pages news between m count count_after is renews less cut = record { low = low; high = high; same = same }
   where
-    was : (w : Numbered) → Contains now w → WasKept before w.0
+    was : (w : Numbered) → Keeps now w → WasKept before w.0
     was w has = renews.kept w (less.each w has)
 
-    low : (w : Numbered) → Contains now w → 2 ≤ w.0
+    low : (w : Numbered) → Keeps now w → 2 ≤ w.0
     low w has = let k = was w has in m.low (w.0, k.bytes) k.has
 
-    high : (w : Numbered) → Contains now w → w.0 < 2 + length news
+    high : (w : Numbered) → Keeps now w → w.0 < 2 + length news
     high w has =
         let k = was w has in
         let up = m.high (w.0, k.bytes) k.has in
         let least = m.low (w.0, k.bytes) k.has in
         elim (Rattle.std.proofs.lemmas.Bool.cases_lt after homes) [
-          | inl fell ↦ absurd (Contains-nil w (subst (λ (l : List Numbered). Contains l w) (cut fell) has))
+          | inl fell ↦ absurd ((cut fell).none w has)
           | inr stayed ↦ omega (arith, up, count, count_after, stayed, least)
         ]
 
     f : ℕ → List ℕ
     f = put_on ws (home pages)
 
-    there : (w : Numbered) → Contains now w → home news w.0 ≡ f w.0
+    there : (w : Numbered) → Keeps now w → home news w.0 ≡ f w.0
     there w has =
         let up = high w has in
         let least = low w has in
@@ -134,7 +150,7 @@ committed end homes after ws before mid now pages news between m count count_aft
         let e : 2 + (w.0 - 2) ≡ w.0 = omega (arith, least) in
         ap (λ (l : List (List ℕ)). home l w.0) is ∙ at_from f 2 (homes_in (f 2) - 2) (w.0 - 2) (omega (arith, up, least, long)) ∙ ap f e
 
-    same : (w : Numbered) → Contains now w → w.1 ≡ home news w.0
+    same : (w : Numbered) → Keeps now w → w.1 ≡ home news w.0
     same w has = ⊎_elim
         (λ put. sym (put_on_has 2 end ws (home pages) w between put))
         (λ stays. m.same w stays.0 ∙ sym (put_on_not ws (home pages) w.0 stays.1))
@@ -149,7 +165,7 @@ was_told old new image untold told = of old.image refl
 
 pub cache_committed : (old new : DiskView) (homes after end : ℕ) (ws before mid now : List Numbered) → IsCacheOf old homes before → AreBetween 2 end ws → (old.image ≡ None → new.image ≡ None)
     → ((pages : List (List ℕ)) → DiskStands old homes pages → DiskStands new after (changed ws pages))
-    → RenewsAll ws before mid → HasNoOther mid now → (after < homes → now ≡ []) → IsCacheOf new after now
+    → RenewsAll ws before mid → HasNoOther mid now → (after < homes → KeepsNone now) → IsCacheOf new after now
 cache_committed old new homes after end ws before mid now is between untold stands renews less cut = record {
   stands = λ image told.
       let t = was_told old new image untold told in

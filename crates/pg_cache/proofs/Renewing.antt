@@ -1,11 +1,12 @@
 -- The pages of a batch, put one by one in place of those that are kept.
-use Rattle.std.proofs.Common.{◌≡◌, ◌⊎◌, inl, inr, ⊎_elim, ℕ, ◌+◌, ◌<◌, List, [], ◌∷◌, ◌++◌, length, take, get_or, sym, ap, subst, ◌∙◌, arith}
-use Rattle.std.specs.List.{Contains}
+use Rattle.std.proofs.Common.{◌≡◌, ◌⊎◌, inl, inr, ⊎_elim, ℕ, ◌+◌, ◌<◌, ◌==◌, List, [], ◌∷◌, ◌++◌, length, take, get_or, false, refl, sym, ap, subst, ◌∙◌, arith}
+use Rattle.std.specs.List.{Contains, list_any}
 use Rattle.std.proofs.lemmas.List.{get_or-map, length-map, take_all, take_more}
 use Rattle.std.proofs.lemmas.List.Elements.{Contains-append_left, Contains-push}
 use Rattle.pg_journal.specs.BatchStates.{image_at, numbers_in}
 use Rattle.pg_journal.specs.Pages.{Numbered, Has}
-use Rattle.pg_cache.specs.Caches.{Renews, RenewsAll, WasKept}
+use Rattle.pg_cache.proofs.Keeping.{none_to_renew}
+use Rattle.pg_cache.specs.Caches.{Keeps, Renews, RenewsAll, WasKept}
 
 pub none_renewed : (old : List Numbered) → RenewsAll [] old old
 none_renewed old = record {
@@ -23,13 +24,13 @@ one_renewed ws i n bytes old mid new less is all one = subst (λ (l : List Numbe
     last : Numbered
     last = get_or ws i (0, [])
 
-    kept : (w : Numbered) → Contains new w → WasKept old w.0
+    kept : (w : Numbered) → Keeps new w → WasKept old w.0
     kept w has = ⊎_elim
         (λ stays. all.kept w stays.0)
         (λ put. subst (WasKept old) (sym (ap (λ (v : Numbered). v.0) put.0)) (all.kept (n, put.1.bytes) put.1.has))
         (one.each w has)
 
-    each : (w : Numbered) → Contains new w → Contains (take i ws ++ last ∷ []) w ⊎ (Contains old w × (Has (take i ws ++ last ∷ []) w.0 → ⊥))
+    each : (w : Numbered) → Keeps new w → Contains (take i ws ++ last ∷ []) w ⊎ (Keeps old w × (Has (take i ws ++ last ∷ []) w.0 → ⊥))
     each w has = ⊎_elim
         (λ stays. ⊎_elim
         (λ put. inl (Contains-append_left (take i ws) (last ∷ []) w put))
@@ -49,6 +50,10 @@ module _ (ws : List Numbered) (numbers : List ℕ) (are : numbers ≡ numbers_in
 
   pub page_renewed : (i : ℕ) (bytes : List ℕ) (old mid new : List Numbered) → i < length numbers → bytes ≡ image_at i ws → RenewsAll (take i ws) old mid → Renews (get_or numbers i 0) bytes mid new → RenewsAll (take (i + 1) ws) old new
   page_renewed i bytes old mid new less image = one_renewed ws i (get_or numbers i 0) bytes old mid new (omega (arith, less, count_kept)) (there i bytes less image)
+
+  -- none of its number is kept
+  pub page_absent : (i : ℕ) (old mid : List Numbered) → i < length numbers → RenewsAll (take i ws) old mid → list_any (λ (w : Numbered). w.0 == get_or numbers i 0) mid ≡ false → RenewsAll (take (i + 1) ws) old mid
+  page_absent i old mid less all none = page_renewed i (image_at i ws) old mid mid less refl all (none_to_renew (get_or numbers i 0) (image_at i ws) mid none)
 
 pub all_renewed : (ws : List Numbered) (i : ℕ) (old new : List Numbered) → i ≡ length ws → RenewsAll (take i ws) old new → RenewsAll ws old new
 all_renewed ws i old new all renews = subst (λ (l : List Numbered). RenewsAll l old new) (ap (λ (k : ℕ). take k ws) all ∙ take_all (length ws) ws (omega arith)) renews

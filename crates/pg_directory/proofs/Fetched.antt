@@ -43,6 +43,14 @@ given_entry o a b e is given = one_entry (a.items, b.items) e (ap (option_map {T
 pub given_neighbours : (o : Option Neighbours) (found : Neighbours) (pages : List StorePage) (es : List EntryAt) (key : List ℕ) → AreNeighboursOr o pages es key → o ≡ Some found → AreNeighbours pages es key found
 given_neighbours o found pages es key are is = subst (λ (x : Option Neighbours). AreNeighboursOr x pages es key) is are
 
+-- ---- a value behind its key
+
+pub value_short : (ks : List Kind) (string value : List ℕ) (short : Bool) → short ≡ true → ((key : List ℕ) (count first : ℕ) → string ≡ item_bytes (Far key count first) → short ≡ false)
+    → ((key own : List ℕ) → IsStringItem (Short key own) → string ≡ item_bytes (Short key own) → value ≡ own)
+    → (item : StringItem) (entry : Entry) (chain : List ℕ) → IsStringItem item → StandsFor ks item entry chain → string ≡ item_bytes item → value ≡ entry.1
+value_short ks string value short is_short far_is short_is (Short key own) entry chain good stands is = short_is key own good is ∙ ap (λ (e : Entry). e.1) (sym stands.0)
+value_short ks string value short is_short far_is short_is (Far key count first) entry chain good stands is = absurd (false≢true (sym (far_is key count first is) ∙ is_short))
+
 -- ---- a value on long pages
 
 pub value_far : (P : List ℕ → Type 0) (ks : List Kind) (string : List ℕ) (short : Bool) (first count : ℕ) → short ≡ false → ((key value : List ℕ) → string ≡ item_bytes (Short key value) → short ≡ true)

@@ -2,16 +2,18 @@
 use Rattle.std.proofs.Common.{◌≡◌, ℕ, suc, ◌+◌, ◌≤◌, ◌<◌, Bool, true, false, List, [], ◌∷◌, ◌++◌, length, length-append, drop, drop-cons, get_or, Option, Some, None, refl, sym, ap, subst, ◌∙◌, append_assoc, append-nil, arith}
 use Rattle.std.specs.Prelude.{IfSome}
 use Rattle.std.proofs.lemmas.List.{length-map, drop_all}
+use Rattle.pg_journal.specs.Pages.{Numbered}
 use Rattle.pg_map.specs.Kinds.{Each}
 use Rattle.pg_directory.specs.declared.entries.EntryAt.{EntryAt}
 use Rattle.pg_directory.specs.declared.entries.Child.{Child}
 use Rattle.pg_directory.specs.Pages.{DirectoryPage, Leaf, Inner, directory_bytes, IsDirectoryPage, named, level_of, no_entry, no_child}
 use Rattle.pg_directory.specs.Trees.{StorePage, Directory, bytes_of_page, IsPage, page_at, first_of}
 use Rattle.pg_directory.specs.Telling.{child_in, children_in, IsTold}
+use Rattle.pg_directory.specs.Keeping.{IsKeptPage}
 use Rattle.pg_directory.specs.Levels.{leasts_of, IsLevel}
 use Rattle.pg_directory.specs.ReadLevels.{FirstIs, TakesItems, IsChildOf, TakesChild, IsLevelOr}
 use Rattle.pg_directory.specs.laws.Holding.{one_store_page}
-use Rattle.pg_directory.proofs.Steps.{some_named}
+use Rattle.pg_directory.proofs.Steps.{page_missing, some_named}
 use Rattle.pg_directory.proofs.Strings.{directory_there, directory_good, page_good}
 
 -- ---- one page
@@ -25,9 +27,8 @@ first_at [] e is = absurd (cc is)
 first_at (x ∷ es) e is = cc
 
 -- what is known where a page was given
-pub given_behind : (o : Option (List ℕ)) (page : List ℕ) (P : Type 0) → IfSome o (λ _. P) → o ≡ Some page → P
-given_behind None page P known is = absurd (cc is)
-given_behind (Some x) page P known is = known
+pub given_behind : (o : Option ℕ) (at : ℕ) (P : ℕ → Type 0) → IfSome o P → o ≡ Some at → P at
+given_behind o at P known is = subst (λ (x : Option ℕ). IfSome x P) is known
 
 -- no page of this level
 pub no_items : (page : List ℕ) (level count : ℕ) → ((d : DirectoryPage) → IsDirectoryPage d → page ≡ directory_bytes d → count ≡ length (named d)) → count ≡ 0 → (cs : List Child) → IsDirectoryPage (Inner level cs) → page ≡ directory_bytes (Inner level cs) → ⊥
@@ -59,8 +60,8 @@ module _ (pages : List StorePage) (level : ℕ) (c : Child) (are : Each IsPage p
   the_page : (cs : List Child) (page : List ℕ) → page ≡ bytes_of_page (page_at pages c.page) → IsTold page (Inner level cs) → page_at pages c.page ≡ Directory (Inner level cs)
   the_page cs page is told = one_store_page (page_at pages c.page) (Directory (Inner level cs)) (page_good pages c.page are) told.good (sym is ∙ told.is)
 
-  pub child_missing : (o : Option (List ℕ)) → (3 ≤ c.page → c.page < 3 + length pages → o ≡ Some (bytes_of_page (page_at pages c.page))) → o ≡ None → (own : List Child) → IsChildOf pages level c own → ⊥
-  child_missing o page none own is = let there = page is.0 (directory_there pages c.page (Inner level own) is.0 is.1) in let both : Some (bytes_of_page (page_at pages c.page)) ≡ None = sym there ∙ none in cc both
+  pub child_missing : (o : Option ℕ) (cache : List Numbered) → (3 ≤ c.page → c.page < 3 + length pages → IsKeptPage o cache (bytes_of_page (page_at pages c.page))) → o ≡ None → (own : List Child) → IsChildOf pages level c own → ⊥
+  child_missing o cache page none own is = page_missing o cache _ (page is.0 (directory_there pages c.page (Inner level own) is.0 is.1)) none
 
   pub child_other : (page : List ℕ) (old new : List Child) → page ≡ bytes_of_page (page_at pages c.page) → TakesItems false page level old new → (own : List Child) → IsChildOf pages level c own → ⊥
   child_other page old new is no_ own child = no_ own (directory_good pages c.page (Inner level own) are child.1) (is ∙ ap bytes_of_page child.1)

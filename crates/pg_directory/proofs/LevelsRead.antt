@@ -4,14 +4,17 @@ use Rattle.std.specs.Prelude.{Vec}
 use Rattle.std.proofs.lemmas.List.{length-map}
 use Rattle.std.specs.Option.{option_map}
 use Rattle.std.specs.declared.alloc.Global.{Global}
+use Rattle.pg_journal.specs.Pages.{Numbered}
 use Rattle.pg_map.specs.Kinds.{Each}
 use Rattle.pg_directory.specs.declared.entries.EntryAt.{EntryAt}
 use Rattle.pg_directory.specs.declared.entries.Child.{Child}
 use Rattle.pg_directory.specs.Pages.{DirectoryPage, Leaf, Inner, directory_bytes, IsDirectoryPage, named, level_of}
 use Rattle.pg_directory.specs.Trees.{StorePage, Plain, Directory, bytes_of_page, IsPage, page_at, first_of}
+use Rattle.pg_directory.specs.Keeping.{IsKeptPage}
 use Rattle.pg_directory.specs.Levels.{pages_of, AreLeaves, IsLevel, LeadsTo}
 use Rattle.pg_directory.specs.ReadLevels.{IsLevelOr, IsTopOf, LedOr, LevelsOr}
 use Rattle.pg_directory.proofs.LevelReads.{first_at}
+use Rattle.pg_directory.proofs.Steps.{page_missing}
 use Rattle.pg_directory.proofs.Strings.{directory_there, directory_good}
 
 abbrev top_of : ℕ → EntryAt → List Child
@@ -37,12 +40,10 @@ top_is pages top (suc level) least inner leaves es (ds, below, is_level, leads, 
     of : IsLevel pages (suc level) (top_of top least) ds → IsTopPage pages top (suc level) least
     of (own, later, low, at, first, more, is) = record { low = low; directory = Inner (suc level) own; at = at; level_is = refl; first = first }
 
-pub top_missing : (pages : List StorePage) (top limit : ℕ) (o : Option (List ℕ)) → (3 ≤ top → top < 3 + length pages → o ≡ Some (bytes_of_page (page_at pages top))) → o ≡ None → LevelsOr None pages top limit
-top_missing pages top limit o there none level least inner leaves es leads are a b =
+pub top_missing : (pages : List StorePage) (top limit : ℕ) (o : Option ℕ) (cache : List Numbered) → (3 ≤ top → top < 3 + length pages → IsKeptPage o cache (bytes_of_page (page_at pages top))) → o ≡ None → LevelsOr None pages top limit
+top_missing pages top limit o cache there none level least inner leaves es leads are a b =
     let t = top_is pages top level least inner leaves es leads are in
-    let got = there t.low (directory_there pages top t.directory t.low t.at) in
-    let both : Some (bytes_of_page (page_at pages top)) ≡ None = sym got ∙ none in
-    cc both
+    page_missing o cache _ (there t.low (directory_there pages top t.directory t.low t.at)) none
 
 -- ---- level by level
 

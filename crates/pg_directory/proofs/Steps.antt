@@ -2,11 +2,14 @@
 use Rattle.std.proofs.Common.{◌≡◌, ℕ, zero, suc, ◌+◌, ◌-◌, ◌≤◌, ◌<◌, List, length, take, drop, get_or, Option, Some, None, Result, Ok, Err, refl, sym, ap, subst, ◌∙◌, arith}
 use Rattle.std.specs.Prelude.{IfOk}
 use Rattle.std.proofs.lemmas.List.{length-map}
+use Rattle.pg_journal.specs.Pages.{Numbered}
 use Rattle.pg_map.specs.Kinds.{Each}
+use Rattle.pg_cache.specs.Caches.{bytes_at}
 use Rattle.pg_directory.specs.declared.entries.EntryAt.{EntryAt}
 use Rattle.pg_directory.specs.declared.entries.Child.{Child}
 use Rattle.pg_directory.specs.Pages.{DirectoryPage, Leaf, Inner, directory_bytes, IsDirectoryPage, named, no_child}
 use Rattle.pg_directory.specs.Trees.{StorePage, bytes_of_page, IsPage, page_at, IsDirectory}
+use Rattle.pg_directory.specs.Keeping.{IsKeptPage}
 use Rattle.pg_directory.specs.Looking.{last_of, first_or, IsRank, IsRankOr, IsOnWay, AreNeighbours}
 use Rattle.pg_directory.proofs.Descending.{on_leaf, down, none_before, IsDown}
 
@@ -16,11 +19,11 @@ failed P (Ok x) y is = absurd (cc is)
 failed P (Err x) y is = tt
 
 -- what a call gave
-pub page_given : (o : Option (List ℕ)) (bytes page : List ℕ) → o ≡ Some bytes → o ≡ Some page → page ≡ bytes
-page_given o bytes page is given = let both : Some page ≡ Some bytes = sym given ∙ is in cc
+pub page_given : (o : Option ℕ) (cache : List Numbered) (bytes : List ℕ) (at : ℕ) (page : List ℕ) → IsKeptPage o cache bytes → o ≡ Some at → page ≡ bytes_at cache at → page ≡ bytes
+page_given o cache bytes at page is given lent = lent ∙ subst (λ (x : Option ℕ). IsKeptPage x cache bytes) given is
 
-pub page_missing : (o : Option (List ℕ)) (bytes : List ℕ) → o ≡ Some bytes → o ≡ None → ⊥
-page_missing o bytes is none = cc
+pub page_missing : (o : Option ℕ) (cache : List Numbered) (bytes : List ℕ) → IsKeptPage o cache bytes → o ≡ None → ⊥
+page_missing o cache bytes is none = subst (λ (x : Option ℕ). IsKeptPage x cache bytes) none is
 
 pub rank_given : (o : Option ℕ) (pages : List StorePage) (es : List EntryAt) (key : List ℕ) (rank : ℕ) → IsRankOr o pages es key → o ≡ Some rank → IsRank pages es key rank
 rank_given o pages es key rank r is = subst (λ (x : Option ℕ). IsRankOr x pages es key) is r

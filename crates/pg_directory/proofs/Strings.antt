@@ -1,7 +1,8 @@
 -- Which pages there are, and the strings of entries on them.
 use Rattle.std.proofs.Common.{◌≡◌, inl, inr, ℕ, zero, suc, ◌+◌, ◌-◌, ◌≤◌, ◌<◌, List, [], ◌∷◌, ◌++◌, length, get_or, refl, sym, ap, subst, ◌∙◌, arith, append-nil}
 use Rattle.std.proofs.lemmas.Bool.{cases_lt}
-use Rattle.pg_page.specs.Pages.{Fits, page_bytes}
+use Rattle.pg_page.specs.Pages.{Fits, page_bytes, string_at as string_on}
+use Rattle.pg_page.specs.laws.Reading.{slot_read}
 use Rattle.pg_map.specs.Kinds.{Each, Free, Slotted, Long, bytes_of_kind, strings_of}
 use Rattle.pg_directory.specs.declared.entries.EntryAt.{EntryAt}
 use Rattle.pg_directory.specs.Pages.{DirectoryPage, Leaf, IsDirectoryPage}
@@ -71,3 +72,9 @@ string_of pages e are has = of (page_at pages e.page) refl
           is = ap (λ (q : StorePage). get_or (strings_of (kind_of q ∷ [])) e.slot []) at ∙ ap (λ (l : List (List ℕ)). get_or l e.slot []) (append-nil ss);
           within = omega (arith, low, has.low);
         }
+
+-- the string that is read of it there
+pub string_read : (pages : List StorePage) (e : EntryAt) (page string : List ℕ) → Each IsPage pages → HasString pages e → page ≡ bytes_of_page (page_at pages e.page) → string ≡ string_on page e.slot → string ≡ string_at pages e
+string_read pages e page string are has is read =
+    let s = string_of pages e are has in
+    read ∙ ap (λ (l : List ℕ). string_on l e.slot) (is ∙ s.at) ∙ (slot_read s.strings e.slot s.fits s.less).string ∙ sym s.is

@@ -5,16 +5,19 @@ use Rattle.std.proofs.lemmas.Bool.{false≢true, le-ltb}
 use Rattle.std.proofs.lemmas.List.{drop_all}
 use Rattle.pg_page.specs.Pages.{number_at}
 use Rattle.pg_page.specs.laws.Reading.{count_of_page}
+use Rattle.pg_journal.specs.Pages.{Numbered}
 use Rattle.pg_map.specs.Kinds.{Each, Free, Slotted, Long, bytes_of_kind, strings_of}
 use Rattle.pg_directory.specs.declared.entries.EntryAt.{EntryAt}
 use Rattle.pg_directory.specs.declared.entries.Child.{Child}
 use Rattle.pg_directory.specs.Pages.{Leaf, Inner, directory_bytes, no_entry, no_child}
 use Rattle.pg_directory.specs.Telling.{IsTold}
 use Rattle.pg_directory.specs.Trees.{StorePage, Plain, Directory, bytes_of_page, kind_of, IsPage, page_at, key_at, HasString, IsBelow, Rise}
+use Rattle.pg_directory.specs.Keeping.{IsKeptPage}
 use Rattle.pg_directory.specs.Levels.{AreLeaves}
 use Rattle.pg_directory.specs.Walking.{AreInOrder, EndsWith, IsWalked, Passes, IsLeafOr, IsLeafOf, WalksLeaf, AreWalkedOr}
 use Rattle.pg_directory.specs.laws.Holding.{one_store_page}
 use Rattle.pg_directory.proofs.Orders.{below_trans, each_right, each_both, each_more, rise_before}
+use Rattle.pg_directory.proofs.Steps.{page_missing}
 use Rattle.pg_directory.proofs.Strings.{directory_there, directory_good, page_good}
 
 -- ---- the strings of a page
@@ -112,8 +115,8 @@ module _ (pages : List StorePage) where
     one_own : (own other : List EntryAt) → page_at pages leaf.page ≡ Directory (Leaf own) → page_at pages leaf.page ≡ Directory (Leaf other) → own ≡ other
     one_own own other a b = ap items (sym a ∙ b)
 
-    pub leaf_missing : (o : Option (List ℕ)) (done : List EntryAt) (limit : ℕ) (key : List ℕ) → (3 ≤ leaf.page → leaf.page < 3 + length pages → o ≡ Some (bytes_of_page (page_at pages leaf.page))) → o ≡ None → WalksLeaf None pages leaf done limit key
-    leaf_missing o done limit key there none own more is all = let got = there is.0 (directory_there pages leaf.page (Leaf own) is.0 is.1) in let both : Some (bytes_of_page (page_at pages leaf.page)) ≡ None = sym got ∙ none in cc both
+    pub leaf_missing : (o : Option ℕ) (cache : List Numbered) (done : List EntryAt) (limit : ℕ) (key : List ℕ) → (3 ≤ leaf.page → leaf.page < 3 + length pages → IsKeptPage o cache (bytes_of_page (page_at pages leaf.page))) → o ≡ None → WalksLeaf None pages leaf done limit key
+    leaf_missing o cache done limit key there none own more is all = page_missing o cache _ (there is.0 (directory_there pages leaf.page (Leaf own) is.0 is.1)) none
 
     pub leaf_other : (done : List EntryAt) (limit : ℕ) (key : List ℕ) → page ≡ bytes_of_page (page_at pages leaf.page) → IsLeafOr false page leaf.least → WalksLeaf None pages leaf done limit key
     leaf_other done limit key is no_ own more child all = no_ own (directory_good pages leaf.page (Leaf own) are child.1) (is ∙ ap bytes_of_page child.1) child.2

@@ -5,6 +5,7 @@ pub mod FarValues
 pub mod Fetching
 pub mod FirstPass
 pub mod Holding
+pub mod Keeping
 pub mod Layering
 pub mod Leaves
 pub mod Levels

@@ -8,6 +8,7 @@ ghost use Rattle.pg_map.specs.PageStrings.{string_key};
 ghost use Rattle.ct_site.specs.Disks.{IsSame, Works};
 ghost use Rattle.pg_cache.specs.Caches.{IsCacheOf};
 ghost use Rattle.pg_directory.specs.Trees.{StorePage, bytes_of_page, page_at, key_at, HasString};
+ghost use Rattle.pg_directory.specs.Keeping.{IsKeptPage};
 ghost use Rattle.pg_directory.specs.Looking.{DiskHolds};
 
 use crate::entries::EntryAt;
@@ -16,17 +17,17 @@ use pg_cache::PageCache;
 use pg_journal::Journal;
 use pg_page::string_in;
 
-/// The home page of a number, if there is one behind the root.
+/// Where the home page of a number stands in the cache, if there is one behind the root.
 pub fn page_behind<D: Disk>(
     disk: &mut D,
     cache: &mut PageCache,
     journal: &Journal,
     number: u32,
-) -> Result<Option<[u8; 4096]>, Failed>
+) -> Result<Option<usize>, Failed>
     requires { IsCacheOf (D.disk disk.old) journal.now cache.old }
     ensures page { (top : ℕ) (pages : List StorePage) → DiskHolds (D.disk disk.old) journal.now top pages → 3 ≤ number → number < journal.now
-        → IfOk result (λ found. found ≡ Some (bytes_of_page (page_at pages number))) }
-    ensures behind { IfOk result (λ found. IfSome found (λ bytes. (3 ≤ number) × (number < journal.now))) }
+        → IfOk result (λ found. IsKeptPage found cache.new (bytes_of_page (page_at pages number))) }
+    ensures behind { IfOk result (λ found. IfSome found (λ at. (3 ≤ number) × (number < journal.now) × (at < length cache.new))) }
     ensures cache { IsCacheOf (D.disk disk.new) journal.now cache.new }
     ensures same { IsSame (D.disk disk.old) (D.disk disk.new) }
     ensures works { Works (D.disk disk.old) (D.disk disk.new) result }
@@ -34,8 +35,8 @@ pub fn page_behind<D: Disk>(
     if !is_behind(journal, number) {
         return Ok(None);
     }
-    let bytes = cache.page(disk, journal, number)?;
-    Ok(Some(bytes))
+    let at = cache.seek(disk, journal, number)?;
+    Ok(Some(at))
 }
 
 /// Whether a home page of a number stands behind the root.
@@ -88,8 +89,8 @@ pub(crate) fn is_above<D: Disk>(
     ensures same { IsSame (D.disk disk.old) (D.disk disk.new) }
     ensures works { Works (D.disk disk.old) (D.disk disk.new) result }
 {
-    let Some(page) = page_behind(disk, cache, journal, at.page)? else {
+    let Some(kept) = page_behind(disk, cache, journal, at.page)? else {
         return Ok(None);
     };
-    Ok(is_key_above(&page, at.slot, key))
+    Ok(is_key_above(cache.page(kept), at.slot, key))
 }

@@ -54,32 +54,6 @@ pub(crate) fn behind_key(string: &[u8]) -> &[u8]
     &rest[count..]
 }
 
-/// The value of the entry of a string. None only where the string is that of no entry.
-fn read_value<D: Disk>(
-    alloc: Global,
-    disk: &mut D,
-    cache: &mut PageCache,
-    journal: &Journal,
-    string: &[u8],
-) -> Result<Option<Vec<u8>>, KeepFault>
-    requires { IsCacheOf (D.disk disk.old) journal.now cache.old }
-    ensures value { (top : ℕ) (pages : List StorePage) (item : StringItem) (entry : Entry) (chain : List ℕ) → DiskHolds (D.disk disk.old) journal.now top pages
-        → IsStringItem item → StandsFor (map kind_of pages) item entry chain → string.now ≡ item_bytes item → IfOk result (λ found. option_map (λ v. v.items) found ≡ Some entry.1) }
-    ensures cache { IsCacheOf (D.disk disk.new) journal.now cache.new }
-    ensures same { IsSame (D.disk disk.old) (D.disk disk.new) }
-    ensures full { result ≡ Err KeepFault.Full → ⊥ }
-    ensures reads { ReadsDisk (D.disk disk.old) (D.disk disk.new) result }
-{
-    if is_short(string) {
-        let Ok(value) = Vec::from_slice(alloc, behind_key(string)) else {
-            return Err(KeepFault::Memory);
-        };
-        return Ok(Some(value));
-    }
-    let (first, count) = far_in(string);
-    read_long(alloc, disk, cache, journal, first, count)
-}
-
 /// The key and the value of the entry at a place. It reads the entry's page, and the long pages of its value. None only where there is
 /// no such entry.
 pub fn read_entry<D: Disk>(
@@ -100,16 +74,23 @@ pub fn read_entry<D: Disk>(
     let Ok(found) = page_behind(disk, cache, journal, at.page) else {
         return Err(KeepFault::Disk);
     };
-    let Some(page) = found else {
+    let Some(kept) = found else {
         return Ok(None);
     };
-    let Some(string) = string_in(&page, at.slot as usize) else {
+    let Some(string) = string_in(cache.page(kept), at.slot as usize) else {
         return Ok(None);
     };
     let Ok(key) = Vec::from_slice(alloc, key_of(string)) else {
         return Err(KeepFault::Memory);
     };
-    match read_value(alloc, disk, cache, journal, string) {
+    if is_short(string) {
+        let Ok(value) = Vec::from_slice(alloc, behind_key(string)) else {
+            return Err(KeepFault::Memory);
+        };
+        return Ok(Some((key, value)));
+    }
+    let (first, count) = far_in(string);
+    match read_long(alloc, disk, cache, journal, first, count) {
         Ok(Some(value)) => Ok(Some((key, value))),
         Ok(None) => Ok(None),
         Err(fault) => Err(fault),

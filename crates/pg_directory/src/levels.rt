@@ -79,16 +79,17 @@ fn take_child<D: Disk>(
     let Ok(found) = page_behind(disk, cache, journal, child.page) else {
         return Err(KeepFault::Disk);
     };
-    let Some(page) = found else {
+    let Some(kept) = found else {
         return Ok(false);
     };
-    let Ok(is_taken) = take_items(&page, level, into) else {
+    let page = cache.page(kept);
+    let Ok(is_taken) = take_items(page, level, into) else {
         return Err(KeepFault::Memory);
     };
     if !is_taken {
         return Ok(false);
     }
-    Ok(is_first(&page, child.least))
+    Ok(is_first(page, child.least))
 }
 
 /// The pages that the pages of a level above the leaves name, one after the other. It reads each page of the level once. None exactly where

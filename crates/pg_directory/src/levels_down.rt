@@ -102,11 +102,13 @@ pub fn read_levels<D: Disk>(
     let Ok(found) = page_behind(disk, cache, journal, top) else {
         return Err(KeepFault::Disk);
     };
-    let Some(page) = found else {
+    let Some(kept) = found else {
         return Ok(None);
     };
-    let Ok(tops) = top_child(alloc, top, &page) else {
+    let page = cache.page(kept);
+    let level = level_in(page);
+    let Ok(tops) = top_child(alloc, top, page) else {
         return Err(KeepFault::Memory);
     };
-    go_down(alloc, disk, cache, journal, level_in(&page), tops, limit)
+    go_down(alloc, disk, cache, journal, level, tops, limit)
 }

@@ -52,10 +52,10 @@ pub fn named_places<D: Disk>(
         let Ok(found) = page_behind(disk, cache, journal, leaves[i].page) else {
             return Err(KeepFault::Disk);
         };
-        let Some(page) = found else {
+        let Some(kept) = found else {
             return Err(KeepFault::Memory);
         };
-        let Ok(()) = put_named(&page, &mut places) else {
+        let Ok(()) = put_named(cache.page(kept), &mut places) else {
             return Err(KeepFault::Memory);
         };
     }

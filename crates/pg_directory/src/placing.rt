@@ -91,10 +91,10 @@ fn put_noted<D: Disk>(
     let Ok(found) = page_behind(disk, cache, journal, number) else {
         return Err(KeepFault::Disk);
     };
-    let Some(page) = found else {
+    let Some(kept) = found else {
         return Ok(());
     };
-    let Ok(()) = put_keys(alloc, &page, number, strings, into) else {
+    let Ok(()) = put_keys(alloc, cache.page(kept), number, strings, into) else {
         return Err(KeepFault::Memory);
     };
     Ok(())

@@ -132,10 +132,10 @@ fn weight_at<D: Disk>(
     let Ok(found) = page_behind(disk, cache, journal, at.page) else {
         return Err(KeepFault::Disk);
     };
-    let Some(page) = found else {
+    let Some(kept) = found else {
         return Ok(None);
     };
-    let Some(string) = string_in(&page, at.slot as usize) else {
+    let Some(string) = string_in(cache.page(kept), at.slot as usize) else {
         return Ok(None);
     };
     Ok(Some(string_weight(string)))

@@ -62,13 +62,14 @@ fn pass_entry<D: Disk>(
     let Ok(found) = page_behind(disk, cache, journal, at.page) else {
         return Err(KeepFault::Disk);
     };
-    let Some(page) = found else {
+    let Some(kept) = found else {
         return Ok(false);
     };
-    if !has_slot(&page, at.slot) {
+    let page = cache.page(kept);
+    if !has_slot(page, at.slot) {
         return Ok(false);
     }
-    let Some(string) = string_in(&page, at.slot as usize) else {
+    let Some(string) = string_in(page, at.slot as usize) else {
         return Ok(false);
     };
     let own = key_of(string);
@@ -139,9 +140,10 @@ fn walk_leaf<D: Disk>(
     let Ok(found) = page_behind(disk, cache, journal, leaf.page) else {
         return Err(KeepFault::Disk);
     };
-    let Some(page) = found else {
+    let Some(kept) = found else {
         return Ok(None);
     };
+    let page = *cache.page(kept);
     if !is_leaf_of(&page, leaf.least) {
         return Ok(None);
     }

@@ -1,219 +1,151 @@
--- The numbers of a draft's changed pages.
-use Rattle.std.specs.Prelude.{Bool, true, false, nat_lt}
-use Rattle.std.proofs.Common.{◌≤◌, ◌<◌, ◌≡◌, ◌≢◌, ◌⊎◌, inl, inr, ⊎_elim, ◌==◌, ℕ, zero, suc, ◌+◌, ◌-◌, ◌^◌, List, [], ◌∷◌, ◌++◌, length, get_or, set, take, refl, sym, ap, subst, ◌∙◌, length-append, arith}
-use Rattle.std.specs.List.{All, Contains}
-use Rattle.std.specs.List.Sorted.{IsStrictlyIncreasing}
-use Rattle.std.proofs.lemmas.Bool.{lt-ltb}
-use Rattle.std.proofs.lemmas.List.{get_or-map, length-map}
-use Rattle.std.proofs.lemmas.List.Elements.{at_from_Contains, Contains-get_or, Contains-append_left, Contains-append_right, Contains-append_cases}
-use Rattle.pg_journal.specs.Pages.{Has, AreBetween, home, root_page}
-use Rattle.pg_heap.specs.declared.drafts.Note.{Note}
-use Rattle.pg_map.specs.declared.sheets.Sheet.{Sheet}
-use Rattle.pg_map.specs.Kinds.{Each, Kind, Free, bytes_of_kind, IsKind}
-use Rattle.pg_map.specs.laws.Sheets.{length-sheet_kinds}
-use Rattle.pg_map.specs.Sheets.{sheet_kind, sheet_kinds}
-use Rattle.pg_heap.specs.Drafts.{kind_kept, undone, touched_by}
-use Rattle.pg_heap.specs.DraftFields.{IsDraftOf}
-use Rattle.pg_heap.specs.DraftPages.{pages_of, numbers_at, root_number, AreSortedOnce}
-use Rattle.pg_map.specs.MapReading.{behind_root}
-use Rattle.pg_heap.specs.Committing.{IsBatchOf}
-use Rattle.pg_heap.proofs.DraftPages.{each_page, has_number, home_of, between_there}
-use Rattle.pg_heap.proofs.Drafting.{length-undone}
-use Rattle.pg_heap.specs.laws.Committing.{either_below}
+-- A batch over the parts of a heap with a directory.
+use Rattle.std.specs.Prelude.{map, IfSome}
+use Rattle.std.proofs.Common.{◌≡◌, ◌⊎◌, inl, inr, ⊎_elim, ℕ, ◌+◌, ◌-◌, ◌^◌, ◌<◌, List, [], ◌++◌, length, Option, Some, refl, sym, ap, subst, ◌∙◌, arith}
+use Rattle.ct_site.specs.Disks.{DiskView, IsSame, Leaves, leaves_more, leaves_same, leaves_then}
+use Rattle.ct_keep.specs.Content.{Content, Change, after}
+use Rattle.ct_keep.specs.Counting.{PrefixCounts, AreCounts}
+use Rattle.ct_keep.specs.SeenChanges.{change_of}
+use Rattle.ct_keep.specs.declared.batches.Change.{Change as OwnChange}
+use Rattle.pg_batch.specs.ByKey.{KeysRise}
+use Rattle.pg_batch.specs.Counts.{WereThere, CountsCame}
+use Rattle.pg_journal.specs.Recovered.{IsRecovered}
+use Rattle.pg_journal.specs.Standing.{DiskStands}
+use Rattle.pg_directory.specs.declared.directories.Directory.{Directory}
+use Rattle.pg_directory.specs.declared.entries.EntryAt.{EntryAt}
+use Rattle.pg_directory.specs.Holding.{HoldsMap, HasTop}
+use Rattle.pg_directory.specs.Looking.{DiskHolds, store_pages}
+use Rattle.pg_directory.specs.Trees.{StorePage, HasNoDirectory}
+use Rattle.pg_directory.specs.laws.Levels.{directory_of_levels}
+use Rattle.pg_directory.specs.laws.OpenStore.{directory_low}
+use Rattle.pg_window.specs.declared.sheets.Sheet.{Sheet}
+use Rattle.pg_window.specs.Loading.{Loads, page_place, rested}
+use Rattle.pg_window.specs.Sheets.{sheet_kinds}
+use Rattle.pg_window.specs.Windows.{away_of}
+use Rattle.pg_window.specs.laws.Loads.{loads_then, loads_there}
+use Rattle.pg_plan.specs.Drafts.{Drafted, shown}
+use Rattle.pg_plan.specs.FreePlaces.{ListsFree}
+use Rattle.pg_plan.specs.Touched.{AreTouched}
+use Rattle.pg_change.specs.Batches.{IsStoreBefore, IsStoreAfter}
+use Rattle.pg_change.specs.BatchCommits.{IsEitherStore}
+use Rattle.pg_change.specs.BatchWindows.{AreIn}
+use Rattle.pg_change.specs.Next.{next_pages}
+use Rattle.pg_change.specs.Planning.{IsBegun, IsPlanned}
+use Rattle.pg_change.specs.Rebuilding.{HasRebuilt}
+use Rattle.pg_change.specs.Resting.{IsResting}
+use Rattle.pg_change.specs.declared.planning.PlannedBatch.{PlannedBatch}
+use Rattle.pg_change.specs.declared.rebuilding.Rebuilt.{Rebuilt}
+use Rattle.pg_change.specs.laws.Resting.{all_rest_again}
+use Rattle.pg_heap.specs.Applying.{IsEitherMap}
+use Rattle.pg_heap.specs.Batching.{IsBatchBegun, IsBatchMade}
+use Rattle.pg_heap.proofs.Loadings.{holds_on}
 
--- ---- pages that were not touched
+-- ---- pages are brought into memory
 
-set_other : (ks : List Kind) (at j : ℕ) (k : Kind) → at ≢ j → get_or (set ks at k) j Free ≡ get_or ks j Free
-set_other [] at j k apart = refl
-set_other (x ∷ ks) zero zero k apart = absurd (apart refl)
-set_other (x ∷ ks) zero (suc j) k apart = refl
-set_other (x ∷ ks) (suc at) zero k apart = refl
-set_other (x ∷ ks) (suc at) (suc j) k apart = set_other ks at j k (λ e. apart (ap suc e))
+-- what is in memory stays so where more is loaded
+pub are_in_still : (pages : List StorePage) (os : List (Option EntryAt)) (old new : List Sheet) (listed now_listed : List ℕ) → Loads old new listed now_listed → AreIn pages os (away_of old) → AreIn pages os (away_of new)
+are_in_still pages os old new listed now_listed loads there = record { there = λ i e less is has. loads_there old new listed now_listed (e.page - 3) loads (there.there i e less is has) }
 
-pub record IsNoted (notes : List Note) (j : ℕ) : Type 0 where
-  pub k : ℕ
-  pub within : k < length notes
-  pub is : (d : Note) → (get_or notes k d).at ≡ j
+pub loads_both : (old mid new : List Sheet) (first listed now_listed : List ℕ) → first ≡ [] → Loads old mid first listed → Loads mid new listed now_listed → Loads old new [] now_listed
+loads_both old mid new first listed now_listed none a b = subst (λ (l : List ℕ). Loads old new l now_listed) none (loads_then old mid new first listed now_listed a b)
 
-touched_or : (notes : List Note) (ks : List Kind) (j : ℕ) → IsNoted notes j ⊎ (get_or (undone notes ks) j Free ≡ get_or ks j Free)
-touched_or [] ks j = inr refl
-touched_or (n ∷ ns) ks j = of (touched_or ns ks j) (n.at == j) (λ e. grind (arith, e)) (λ e. grind (arith, e))
+-- ---- what a crash leaves meanwhile
+
+module _ {disk : DiskView} {homes top : ℕ} {old : Directory} {ws : List Change} {os : List (Option EntryAt)} {places : List ℕ} {d : Drafted} {counts : PrefixCounts} (b : IsBatchBegun disk homes top old ws os places d counts) where
+  recovers_held : (image : List ℕ) → IsRecovered image (store_pages top b.pages) → IsEitherMap b.held (after ws b.held) image
+  recovers_held image r = inl (store_pages top b.pages, r, b.is_map)
+
+  now_held : (image : List ℕ) → disk.may_leave image → IsEitherMap b.held (after ws b.held) image
+  now_held image left =
+      let st = b.holds.stands in
+      recovers_held image (subst (λ (x : List ℕ). IsRecovered x (store_pages top b.pages)) (sym (st.settled.only image left)) (inr (st.shut.store, inl st.shut.closed)))
+
+  -- nothing new where pages were only read
+  pub reads_leave : (new : DiskView) → IsSame disk new → new.beside ≡ disk.beside → Leaves disk new (IsEitherMap b.held (after ws b.held))
+  reads_leave new same beside = leaves_same disk new _ same beside now_held
+
+  -- the same map where the file was lengthened then
+  pub fill_leaves : (mid new : DiskView) → IsSame disk mid → mid.beside ≡ disk.beside → ((pages : List (List ℕ)) → DiskStands mid homes pages → Leaves mid new (λ image. IsRecovered image pages)) → Leaves disk new (IsEitherMap b.held (after ws b.held))
+  fill_leaves mid new same beside leaves =
+      let holds = holds_on disk mid homes top b.pages same b.holds in
+      leaves_then disk mid new _ (reads_leave mid same beside) (leaves_more mid new _ _ (leaves (store_pages top b.pages) holds.stands) recovers_held)
+
+  -- one of both maps where pages were committed then that hold the changed one
+  pub commit_leaves : (mid new : DiskView) (next : List StorePage) (top_next : ℕ) → IsSame disk mid → mid.beside ≡ disk.beside → HoldsMap (store_pages top_next next) (after ws b.held)
+      → Leaves mid new (IsEitherStore top b.pages top_next next) → Leaves disk new (IsEitherMap b.held (after ws b.held))
+  commit_leaves mid new next top_next same beside holds leaves =
+      leaves_then disk mid new _ (reads_leave mid same beside)
+      (leaves_more mid new _ _ leaves (λ image r. ⊎_elim (recovers_held image) (λ n. inr (store_pages top_next next, n, holds)) r))
+
+-- ---- the map that a batch leaves
+
+after_map : (next : List StorePage) (m : Content) (new : Rebuilt) → IsStoreAfter next m new → new.top < 2 ^ 32 → HoldsMap (store_pages new.top next) m
+after_map next m new store fits = record { pages = next; top = new.top; are = store.good; small = fits; is = refl; layout = store.layout; directory = of store.directory }
   where
-    of : IsNoted ns j ⊎ (get_or (undone ns ks) j Free ≡ get_or ks j Free) → (t : Bool) → (t ≡ true → n.at ≡ j) → (t ≡ false → n.at ≢ j) → IsNoted (n ∷ ns) j ⊎ (get_or (set (undone ns ks) n.at (kind_kept n.old)) j Free ≡ get_or ks j Free)
-    of rest true yes_ no_ = inl (record { k = 0; within = omega arith; is = λ d. yes_ refl })
-    of rest false yes_ no_ = ⊎_elim
-        (λ r. inl (record { k = suc r.k; within = let w = r.within in omega (arith, w); is = r.is }))
-        (λ same_. inr (set_other (undone ns ks) n.at j (kind_kept n.old) (no_ refl) ∙ same_)) rest
+    of : HasRebuilt next new store.entries → HasNoDirectory next new.top ⊎ HasTop next new.top
+    of (inl levels) =
+        let is = directory_of_levels next new.top new.directory.inner.items new.directory.leaves.items store.entries levels in
+        let low = directory_low next new.top store.entries is in
+        inr (record { some = omega (arith, low); entries = store.entries; is = is })
+    of (inr w) = inl w.none
 
-noted_by : (notes : List Note) (j : ℕ) → Contains (touched_by notes) j → IsNoted notes j
-noted_by notes j has = let at = at_from_Contains (touched_by notes) j has in of notes at.0 at.1 (at.2 0)
-  where
-    of : (ns : List Note) (k : ℕ) → k < length (touched_by ns) → get_or (touched_by ns) k 0 ≡ j → IsNoted ns j
-    of [] k less is = absurd (omega (arith, less))
-    of (n ∷ ns) zero less is = record { k = 0; within = omega arith; is = λ d. is }
-    of (n ∷ ns) (suc k) less is = let r = of ns k (omega (arith, less)) is in record { k = suc r.k; within = let w = r.within in omega (arith, w); is = r.is }
+-- what was planned, where its changes are those that were given
+pub is_planned : {disk : DiskView} {homes top : ℕ} {old : Directory} {os : List (Option EntryAt)} {places : List ℕ} {d : Drafted} {counts : PrefixCounts} (changes given : List OwnChange) (now : Drafted) (free : List ℕ) (found : Option PlannedBatch) (planned : PlannedBatch)
+    → (b : IsBatchBegun disk homes top old (map change_of changes) os places d counts) → given ≡ changes → KeysRise (map change_of changes)
+    → ((pages : List StorePage) (m part : Content) (es : List EntryAt) → DiskHolds disk homes top pages → IsStoreBefore pages m top old es → KeysRise (map change_of given) → IsBegun pages part (map change_of given) places d
+    → IfSome found (IsPlanned pages m (map change_of given) now free))
+    → found ≡ Some planned → IsPlanned b.pages b.held (map change_of changes) now free planned
+is_planned {disk = disk} {homes = homes} {top = top} {old = old} {places = places} {d = d} changes given now free found planned b same rise plans is =
+    subst (λ (o : Option PlannedBatch). IfSome o (IsPlanned b.pages b.held (map change_of changes) now free)) is
+    (subst (λ (l : List OwnChange). (pages : List StorePage) (m part : Content) (es : List EntryAt) → DiskHolds disk homes top pages → IsStoreBefore pages m top old es → KeysRise (map change_of l) → IsBegun pages part (map change_of l) places d
+    → IfSome found (IsPlanned pages m (map change_of l) now free)) same plans b.pages b.held b.part b.entries b.holds b.store rise b.begun)
 
-touched_has : (notes : List Note) (j : ℕ) → IsNoted notes j → Contains (touched_by notes) j
-touched_has notes j r = subst (Contains (touched_by notes)) (of notes r.k r.within r.is) (Contains-get_or (touched_by notes) r.k 0 (long notes r.k r.within))
-  where
-    long : (ns : List Note) (k : ℕ) → k < length ns → k < length (touched_by ns)
-    long [] k less = absurd (omega (arith, less))
-    long (n ∷ ns) zero less = omega arith
-    long (n ∷ ns) (suc k) less = let r = long ns k (omega (arith, less)) in omega (arith, r)
+module _ {pages : List StorePage} {m : Content} {ws : List Change} {d : Drafted} {free : List ℕ} {planned : PlannedBatch} (p : IsPlanned pages m ws d free planned) where
+  pub planned_map : planned.top < 2 ^ 32 → HoldsMap (store_pages planned.top (next_pages pages d.now planned.images planned.numbers)) (after ws m)
+  planned_map fits =
+      let next = next_pages pages d.now planned.images planned.numbers in
+      subst (λ (t : ℕ). HoldsMap (store_pages t next) (after ws m)) (sym p.top) (after_map next (after ws m) p.new p.store (let e = p.top in omega (arith, e, fits)))
 
-    of : (ns : List Note) (k : ℕ) → k < length ns → ((d : Note) → (get_or ns k d).at ≡ j) → get_or (touched_by ns) k 0 ≡ j
-    of [] k less is = absurd (omega (arith, less))
-    of (n ∷ ns) zero less is = is n
-    of (n ∷ ns) (suc k) less is = of ns k (omega (arith, less)) is
+  pub made_of : (disk : DiskView) (homes : ℕ) (counts : PrefixCounts) → DiskHolds disk homes planned.top (next_pages pages d.now planned.images planned.numbers) → AreCounts (after ws m) counts
+      → IsBatchMade disk homes (after ws m) free counts planned.top planned.directory
+  made_of disk homes counts holds counted = record {
+    pages = next_pages pages d.now planned.images planned.numbers;
+    new = p.new;
+    top_is = p.top;
+    directory_is = p.directory;
+    holds = holds;
+    store = p.store;
+    listed = p.listed;
+    counted = counted;
+  }
 
-take_at_front : (ks : List Kind) (n j : ℕ) → j < n → get_or (take n ks) j Free ≡ get_or ks j Free
-take_at_front ks zero j less = absurd (omega (arith, less))
-take_at_front [] (suc n) j less = refl
-take_at_front (k ∷ ks) (suc n) zero less = refl
-take_at_front (k ∷ ks) (suc n) (suc j) less = take_at_front ks n j (omega (arith, less))
+-- the counts after it, where the changes and places that were counted are those of the batch
+pub counts_made : {m : Content} {old mid new : PrefixCounts} (changes came_changes gone_changes : List OwnChange) (os came gone : List (Option EntryAt)) → came_changes ≡ changes → came ≡ os → gone_changes ≡ changes → gone ≡ os
+    → KeysRise (map change_of changes) → WereThere m (map change_of changes) os → AreCounts m old → CountsCame (map change_of came_changes) came old mid
+    → ((n : Content) (before : PrefixCounts) → KeysRise (map change_of gone_changes) → WereThere n (map change_of gone_changes) gone → AreCounts n before → CountsCame (map change_of gone_changes) gone before mid
+    → AreCounts (after (map change_of gone_changes) n) new)
+    → AreCounts (after (map change_of changes) m) new
+counts_made {m = m} {old = old} {mid = mid} {new = new} changes came_changes gone_changes os came gone same_came places_came same_gone places_gone rise there are came_is law =
+    let came_now : CountsCame (map change_of changes) os old mid = subst (λ (l : List OwnChange). CountsCame (map change_of l) os old mid) same_came (subst (λ (l : List (Option EntryAt)). CountsCame (map change_of came_changes) l old mid) places_came came_is) in
+    subst (λ (l : List OwnChange). AreCounts (after (map change_of l) m) new) same_gone
+    (law m old (subst (λ (l : List OwnChange). KeysRise (map change_of l)) (sym same_gone) rise)
+    (subst (λ (l : List OwnChange). WereThere m (map change_of l) gone) (sym same_gone) (subst (WereThere m (map change_of changes)) (sym places_gone) there)) are
+    (subst (λ (l : List OwnChange). CountsCame (map change_of l) gone old mid) (sym same_gone) (subst (λ (l : List (Option EntryAt)). CountsCame (map change_of changes) l old mid) (sym places_gone) came_now)))
 
-length_taken : (ks : List Kind) (n : ℕ) → n ≤ length ks → length (take n ks) ≡ n
-length_taken ks zero less = refl
-length_taken [] (suc n) less = absurd (omega (arith, less))
-length_taken (k ∷ ks) (suc n) less = ap suc (length_taken ks n (omega (arith, less)))
+-- ---- over pages that were brought into memory
 
-either : (a b : ℕ) → (a ≤ b) ⊎ (b < a)
-either a b = grind arith
+-- what holds of a draft that has just begun holds of one that is the same
+pub begun_as : {disk : DiskView} {homes top : ℕ} {old : Directory} {ws : List Change} {os : List (Option EntryAt)} {counts : PrefixCounts} (P : Content → Type 0) (p q : List ℕ) (d e : Drafted) → p ≡ q → d ≡ e
+    → ((b : IsBatchBegun disk homes top old ws os p d counts) → P b.held) → (b : IsBatchBegun disk homes top old ws os q e counts) → P b.held
+begun_as {disk = disk} {homes = homes} {top = top} {old = old} {ws = ws} {os = os} {counts = counts} P p q d e places_are draft_is holds =
+    subst (λ (x : Drafted). (b : IsBatchBegun disk homes top old ws os q x counts) → P b.held) draft_is
+    (subst (λ (l : List ℕ). (b : IsBatchBegun disk homes top old ws os l d counts) → P b.held) places_are holds)
 
--- The numbers have that of each page that was noted, and of the root where there are more pages than before; and no number else.
-pub record IsNumbered (sheets : List Sheet) (notes : List Note) (before : ℕ) (numbers : List ℕ) : Type 0 where
-  pub noted : (j : ℕ) → IsNoted notes j → Contains numbers (j + 3)
-  pub root : before < length sheets → Contains numbers 2
-  pub only : (n : ℕ) → Contains numbers n → (2 ≤ n) × (n < 3 + length sheets)
-  pub few : length numbers ≤ 1 + length notes
-
-pub is_batch : (sheets : List Sheet) (notes : List Note) (before : ℕ) (numbers : List ℕ) → IsDraftOf sheets notes before → IsNumbered sheets notes before numbers
-    → IsBatchOf (take before (undone notes (sheet_kinds sheets))) (sheet_kinds sheets) (pages_of (sheet_kinds sheets) numbers)
-is_batch sheets notes before numbers draft is = record {
-  are = each_page (sheet_kinds sheets) numbers;
-  all = λ n low high. of n (n == 2) (λ e. grind (arith, e)) (λ e. grind (arith, e)) low high;
-}
-  where
-    olds : List Kind
-    olds = take before (undone notes (sheet_kinds sheets))
-
-    count : length (undone notes (sheet_kinds sheets)) ≡ length sheets
-    count = length-undone notes (sheet_kinds sheets) ∙ length-sheet_kinds sheets
-
-    length_olds : length (take before (undone notes (sheet_kinds sheets))) ≡ before
-    length_olds = length_taken (undone notes (sheet_kinds sheets)) before (let g = draft.grown in omega (arith, g, count))
-
-    has : (n : ℕ) → IsNoted notes (n - 3) → 3 ≤ n → Has (pages_of (sheet_kinds sheets) numbers) n
-    has n r low = let e : (n - 3) + 3 ≡ n = omega (arith, low) in has_number (sheet_kinds sheets) numbers n (subst (Contains numbers) e (is.noted (n - 3) r))
-
-    later : (n : ℕ) → 3 ≤ n → n < 3 + length (sheet_kinds sheets) → Has (pages_of (sheet_kinds sheets) numbers) n ⊎ (home (behind_root (take before (undone notes (sheet_kinds sheets)))) n ≡ home (behind_root (sheet_kinds sheets)) n)
-    later n low high = ⊎_elim
-        (λ behind. inl (has n (noted_by notes (n - 3) (draft.new (n - 3) behind (let e = length-sheet_kinds sheets in omega (arith, high, low, e)))) low))
-        (λ front. ⊎_elim
-        (λ noted. inl (has n noted low))
-        (λ same_.
-        let e : n ≡ 3 + (n - 3) = omega (arith, low) in
-        inr (ap (home (behind_root (take before (undone notes (sheet_kinds sheets))))) e
-        ∙ home_of (take before (undone notes (sheet_kinds sheets))) (n - 3) (omega (arith, front, length_olds))
-        ∙ ap bytes_of_kind (take_at_front (undone notes (sheet_kinds sheets)) before (n - 3) front ∙ same_)
-        ∙ sym (home_of (sheet_kinds sheets) (n - 3) (omega (arith, high, low))) ∙ sym (ap (home (behind_root (sheet_kinds sheets))) e)))
-        (touched_or notes (sheet_kinds sheets) (n - 3)))
-        (either before (n - 3))
-
-    of : (n : ℕ) (t : Bool) → (t ≡ true → n ≡ 2) → (t ≡ false → n ≢ 2) → 2 ≤ n → n < 3 + length (sheet_kinds sheets) → Has (pages_of (sheet_kinds sheets) numbers) n ⊎ (home (behind_root (take before (undone notes (sheet_kinds sheets)))) n ≡ home (behind_root (sheet_kinds sheets)) n)
-    of n false yes_ no_ low high = later n (let e = no_ refl in omega (arith, low, e)) high
-    of n true yes_ no_ low high = ⊎_elim
-        (λ less. inl (subst (Has (pages_of (sheet_kinds sheets) numbers)) (sym (yes_ refl)) (has_number (sheet_kinds sheets) numbers 2 (is.root less))))
-        (λ not_less.
-        let e : length (take before (undone notes (sheet_kinds sheets))) ≡ length (sheet_kinds sheets) = let g = draft.grown in omega (arith, g, not_less, length_olds, length-sheet_kinds sheets) in
-        inr (ap (home (behind_root (take before (undone notes (sheet_kinds sheets))))) (yes_ refl) ∙ ap (λ (k : ℕ). root_page (3 + k) 0) e ∙ sym (ap (home (behind_root (sheet_kinds sheets))) (yes_ refl))))
-        (either_below before (length sheets))
-
-pub kind_got : (xs : List Sheet) (at : ℕ) (x : Sheet) → at < length xs → x ≡ get_or xs at x → get_or (sheet_kinds xs) at Free ≡ sheet_kind x
-kind_got [] at x less is = absurd (omega (arith, less))
-kind_got (y ∷ xs) zero x less is = ap sheet_kind (sym is)
-kind_got (y ∷ xs) (suc at) x less is = kind_got xs at x (omega (arith, less)) is
-
-noted_within : (sheets : List Sheet) (notes : List Note) (j : ℕ) → Each (λ (n : Note). n.at < length sheets) notes → IsNoted notes j → j < length sheets
-noted_within sheets notes j all r = of notes r.k r.within r.is all
-  where
-    of : (ns : List Note) (k : ℕ) → k < length ns → ((d : Note) → (get_or ns k d).at ≡ j) → Each (λ (n : Note). n.at < length sheets) ns → j < length sheets
-    of [] k less is all = absurd (omega (arith, less))
-    of (n ∷ ns) zero less is all = subst (λ (m : ℕ). m < length sheets) (is n) all.0
-    of (n ∷ ns) (suc k) less is all = of ns k (omega (arith, less)) is all.1
-
--- ---- the numbers, as they are gathered
-
-number_of_place : (places : List ℕ) (j : ℕ) → Contains places j → Contains (numbers_at places) (j + 3)
-number_of_place places j has =
-    let at = at_from_Contains places j has in
-    subst (Contains (numbers_at places)) (get_or-map (λ (p : ℕ). p + 3) places at.0 0 0 at.1 ∙ ap (λ (p : ℕ). p + 3) (at.2 0))
-    (Contains-get_or (numbers_at places) at.0 0 (omega (arith, at.1, length-map places (λ (p : ℕ). p + 3))))
-
-place_of_number : (places : List ℕ) (n : ℕ) → Contains (numbers_at places) n → (j : ℕ) × Contains places j × (n ≡ j + 3)
-place_of_number places n has =
-    let at = at_from_Contains (numbers_at places) n has in
-    let less : at.0 < length places = omega (arith, at.1, length-map places (λ (p : ℕ). p + 3)) in
-    (get_or places at.0 0, Contains-get_or places at.0 0 less, sym (at.2 0) ∙ get_or-map (λ (p : ℕ). p + 3) places at.0 0 0 less)
-
-root_or_none : (asked : Bool) (n : ℕ) → Contains (root_number asked) n → n ≡ 2
-root_or_none true n has = let at = at_from_Contains (2 ∷ []) n has in of at.0 at.1 (at.2 0)
-  where
-    of : (k : ℕ) → k < 1 → get_or (2 ∷ []) k 0 ≡ n → n ≡ 2
-    of zero less is = sym is
-    of (suc k) less is = absurd (omega (arith, less))
-root_or_none false n has = let at = at_from_Contains {X = ℕ} [] n has in absurd (omega (arith, at.1))
-
-length_of_root_number : (asked : Bool) → length (root_number asked) ≤ 1
-length_of_root_number true = omega arith
-length_of_root_number false = omega arith
-
-root_asked : (asked : Bool) → asked ≡ true → Contains (root_number asked) 2
-root_asked true is = Contains-get_or (2 ∷ []) 0 0 (omega arith)
-root_asked false is = absurd (cc is)
-
-pub gathered : (sheets : List Sheet) (notes : List Note) (before : ℕ) (old new : List ℕ) → IsDraftOf sheets notes before → old ≡ numbers_at (touched_by notes) ++ root_number (nat_lt before (length sheets)) → AreSortedOnce old new
-    → IsNumbered sheets notes before new
-gathered sheets notes before old new draft is once = record {
-  noted = λ j r. (once.same (j + 3)).0 (subst (λ (l : List ℕ). Contains l (j + 3)) (sym is) (Contains-append_left firsts root (j + 3) (number_of_place (touched_by notes) j (touched_has notes j r))));
-  root = λ less. (once.same 2).0 (subst (λ (l : List ℕ). Contains l 2) (sym is) (Contains-append_right firsts root 2 (root_asked (nat_lt before (length sheets)) (lt-ltb before (length sheets) less))));
-  only = λ n has. ⊎_elim
-      (λ first.
-      let p = place_of_number (touched_by notes) n first in
-      let within = noted_within sheets notes p.0 draft.within (noted_by notes p.0 p.1) in
-      (omega (arith, p.2), omega (arith, p.2, within)))
-      (λ last. let two = root_or_none (nat_lt before (length sheets)) n last in (omega (arith, two), omega (arith, two)))
-      (Contains-append_cases firsts root n (subst (λ (l : List ℕ). Contains l n) is ((once.same n).1 has)));
-  few =
-      let some = once.few in
-      omega (
-        arith,
-        some,
-        ap (λ (l : List ℕ). length l) is,
-        length-append firsts root,
-        length-map (touched_by notes) (λ (p : ℕ). p + 3),
-        length-map notes (λ (n : Note). n.at),
-        length_of_root_number (nat_lt before (length sheets)),
-      );
-}
-  where
-    firsts : List ℕ
-    firsts = numbers_at (touched_by notes)
-
-    root : List ℕ
-    root = root_number (nat_lt before (length sheets))
-
-pub numbers_between : (sheets : List Sheet) (notes : List Note) (before end : ℕ) (numbers : List ℕ) → IsNumbered sheets notes before numbers → IsStrictlyIncreasing numbers → Each IsKind (sheet_kinds sheets) → 3 + length (sheet_kinds sheets) ≤ end
-    → AreBetween 2 end (pages_of (sheet_kinds sheets) numbers)
-numbers_between sheets notes before end numbers is rise good most =
-    between_there (sheet_kinds sheets) end numbers good most rise
-    (λ k less. let r = is.only (get_or numbers k 0) (Contains-get_or numbers k 0 less) in (r.0, omega (arith, r.1, length-sheet_kinds sheets)))
-
--- each noted page has a number of four bytes
-pub notes_fit : (sheets : List Sheet) (notes seen : List Note) (ks : List Kind) → Each (λ (n : Note). n.at < length sheets) notes → seen ≡ notes → sheet_kinds sheets ≡ ks → 3 + length ks ≤ 2 ^ 31 → All (λ (n : Note). n.at + 3 < 2 ^ 31) seen
-notes_fit sheets notes seen ks all is kinds most = subst (All (λ (n : Note). n.at + 3 < 2 ^ 31)) (sym is) (λ i d less. let w = of notes i d all less in omega (arith, w, most, ap (λ (l : List Kind). length l) kinds, length-sheet_kinds sheets))
-  where
-    of : (ns : List Note) (i : ℕ) (d : Note) → Each (λ (n : Note). n.at < length sheets) ns → i < length ns → (get_or ns i d).at < length sheets
-    of [] i d all less = absurd (omega (arith, less))
-    of (n ∷ ns) zero d all less = all.0
-    of (n ∷ ns) (suc i) d all less = of ns i d all.1 (omega (arith, less))
+-- the pages that are put to rest after a commit
+pub rest_made : (before loaded_sheets sheets now : List Sheet) (homes homes_now : ℕ) (free free_now loaded numbers given_loaded given_numbers : List ℕ) (d : Drafted) → IsResting before homes free → Loads before loaded_sheets [] loaded → d.before ≡ shown loaded_sheets
+    → sheet_kinds sheets ≡ d.now → away_of sheets ≡ d.away → AreTouched d numbers → ListsFree d.now free_now → given_loaded ≡ loaded → given_numbers ≡ numbers → now ≡ rested (map page_place given_numbers ++ given_loaded) sheets → homes_now ≡ 3 + length d.now
+    → IsResting now homes_now free_now
+rest_made before loaded_sheets sheets now homes homes_now free free_now loaded numbers given_loaded given_numbers d r l begun kinds marks touched listed same_loaded same_numbers is homes_are =
+    let all = all_rest_again before loaded_sheets homes free loaded d free_now numbers sheets r l begun kinds marks touched listed in
+    let places = ap (λ (ns : List ℕ). map page_place ns ++ given_loaded) same_numbers ∙ ap (λ (ls : List ℕ). map page_place numbers ++ ls) same_loaded in
+    subst (λ (h : ℕ). IsResting now h free_now) (sym homes_are)
+    (subst (λ (s : List Sheet). IsResting s (3 + length d.now) free_now) (sym (is ∙ ap (λ (ps : List ℕ). rested ps sheets) places)) all)

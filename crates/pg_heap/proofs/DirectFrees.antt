@@ -1,18 +1,18 @@
 -- The free pages that a new directory leaves.
-use Rattle.std.specs.Prelude.{Bool, true, false, cond, map, ◌==◌}
+use Rattle.std.specs.Prelude.{map}
 use Rattle.std.proofs.Common.{◌≡◌, ◌⊎◌, inl, inr, ⊎_elim, ℕ, zero, suc, ◌+◌, ◌-◌, ◌≤◌, ◌<◌, List, [], ◌∷◌, ◌++◌, length, take, take-suc, drop, get_or, refl, sym, ap, subst, ◌∙◌, arith}
 use Rattle.std.proofs.lemmas.Bool.{cases_lt, cases_eq}
 use Rattle.std.proofs.lemmas.List.{take_all, take-append-drop}
 use Rattle.pg_map.specs.Holding.{times}
-use Rattle.pg_map.specs.Kinds.{Each, Kind, Free}
+use Rattle.pg_map.specs.Kinds.{Each, Free}
 use Rattle.pg_map.specs.laws.Loose.{times_here, times_other, times-append as times-both}
 use Rattle.pg_directory.specs.Numbering.{number_taken, numbers_from, homes_taken, AreRising}
 use Rattle.pg_directory.specs.Trees.{StorePage, Plain, kind_of, page_at}
 use Rattle.pg_directory.specs.laws.Numbering.{taken_free, taken_new, new_taken}
 use Rattle.pg_directory.specs.laws.Written.{page_past}
-use Rattle.pg_heap.specs.FreePlaces.{times_listed, one_if_free, free_at, ListsFree}
+use Rattle.pg_plan.specs.FreePlaces.{times_listed, one_if_free, free_at, ListsFree}
 use Rattle.pg_heap.proofs.Freeing.{times-append, one_here, one_elsewhere}
-use Rattle.pg_heap.proofs.StoreFrees.{listed_numbers, free_within, free_past}
+use Rattle.pg_heap.proofs.Frees.{listed_numbers, free_within, free_past}
 
 -- a page of a number is taken as often as its place is among the first free ones, where it was there before
 one_taken : (x at : ℕ) → times (3 + at) ((x + 3) ∷ []) ≡ times_listed (x ∷ []) at

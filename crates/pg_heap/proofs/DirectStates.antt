@@ -1,8 +1,7 @@
 -- A heap whose store gets a directory.
-use Rattle.std.specs.Prelude.{map, Result, Ok, Err}
-use Rattle.std.proofs.Common.{◌≡◌, ◌⊎◌, inl, inr, ⊎_elim, ℕ, zero, suc, ◌+◌, ◌-◌, ◌^◌, ◌≤◌, ◌<◌, List, [], ◌∷◌, ◌++◌, length, drop, get_or, Some, None, refl, sym, ap, subst, ◌∙◌, append-nil, arith}
-use Rattle.std.proofs.lemmas.Bool.{cases_lt}
-use Rattle.ct_site.specs.Disks.{DiskView, IsSame, Leaves, leaves_none}
+use Rattle.std.specs.Prelude.{map, Err}
+use Rattle.std.proofs.Common.{◌≡◌, ◌⊎◌, inl, inr, ℕ, zero, suc, ◌+◌, ◌-◌, ◌^◌, ◌≤◌, ◌<◌, List, [], ◌∷◌, ◌++◌, length, get_or, None, refl, sym, ap, subst, ◌∙◌, append-nil, arith}
+use Rattle.ct_site.specs.Disks.{DiskView, IsSame, leaves_none}
 use Rattle.ct_keep.specs.declared.keepers.KeepFault.{KeepFault}
 use Rattle.ct_keep.specs.declared.keepers.KeepFault.TheVariants.{Memory, Full, Disk}
 use Rattle.pg_cache.specs.Caches.{IsCacheOf}
@@ -15,18 +14,16 @@ use Rattle.pg_directory.specs.declared.making.NewDirectory.{NewDirectory}
 use Rattle.pg_directory.specs.Holding.{HoldsMap, HasTop}
 use Rattle.pg_directory.specs.Levels.{pages_of}
 use Rattle.pg_directory.specs.Looking.{DiskHolds, store_pages}
-use Rattle.pg_directory.specs.Making.{new_pages}
-use Rattle.pg_directory.specs.Trees.{StorePage, Plain, kind_of, page_at, HasNoDirectory}
+use Rattle.pg_directory.specs.Trees.{StorePage, Plain, kind_of, HasNoDirectory}
 use Rattle.pg_directory.specs.laws.Levels.{directory_of_levels}
 use Rattle.pg_directory.specs.laws.OpenStore.{directory_low}
-use Rattle.pg_heap.specs.Commits.{CommitsPages}
 use Rattle.pg_heap.specs.Directing.{IsPlainStore, HoldsDirectory, LeavesMap}
-use Rattle.pg_heap.specs.FreePlaces.{times_listed, one_if_free, free_at, ListsFree}
-use Rattle.pg_heap.specs.StoreDirects.{directed_state, IsReadyUnlessDisk}
-use Rattle.pg_heap.specs.StoreHeaps.{StoreState, directory_places, HasPlaces, HasDirectory, StoreStands, IsReady}
+use Rattle.pg_plan.specs.FreePlaces.{times_listed, one_if_free, free_at, ListsFree}
+use Rattle.pg_heap.specs.Directs.{directed_state, IsReadyUnlessDisk}
+use Rattle.pg_heap.specs.Heaps.{HeapState, directory_places, HasPlaces, HasDirectory, HeapStands, IsReady}
 use Rattle.pg_heap.proofs.Freeing.{times-append, one_here}
-use Rattle.pg_heap.proofs.StoreLoadings.{some_before}
-use Rattle.pg_heap.proofs.StoreStates.{ready_then}
+use Rattle.pg_heap.proofs.Loadings.{some_before}
+use Rattle.pg_heap.proofs.States.{ready_then}
 
 -- ---- a place that is listed is that of a free page
 
@@ -47,8 +44,8 @@ free_there (p ∷ ps) (suc at) one = free_there ps at one
 
 -- ---- the store as it is
 
-module _ (disk : DiskView) (heap : StoreState) (s : StoreStands disk heap) where
-  store_map : heap.top < 2 ^ 32 → HoldsMap (store_pages heap.top s.pages) s.held
+module _ (disk : DiskView) (heap : HeapState) (s : HeapStands disk heap) where
+  pub store_map : heap.top < 2 ^ 32 → HoldsMap (store_pages heap.top s.pages) s.held
   store_map fits = record { pages = s.pages; top = heap.top; are = s.holds.are; small = fits; is = refl; layout = s.layout; directory = of s.directory }
     where
       of : HasPlaces s.pages heap ⊎ HasDirectory s.pages heap → HasNoDirectory s.pages heap.top ⊎ HasTop s.pages heap.top
@@ -101,7 +98,7 @@ module _ (disk : DiskView) (heap : StoreState) (s : StoreStands disk heap) where
     }
 
     pub stands_directed : (new : DiskView) (homes : ℕ) (cache : List Numbered) (d : NewDirectory) → HoldsDirectory new homes d heap.places heap.free s.pages s.held
-        → (t : StoreStands new (record (directed_state d heap) { homes = homes; cache = cache })) × (t.held ≡ s.held)
+        → (t : HeapStands new (record (directed_state d heap) { homes = homes; cache = cache })) × (t.held ≡ s.held)
     stands_directed new homes cache d h = (
       record {
         pages = h.pages;
@@ -111,13 +108,14 @@ module _ (disk : DiskView) (heap : StoreState) (s : StoreStands disk heap) where
         directory = inr (record { entries = heap.places; levels = h.levels });
         free = h.listed lists_free;
         weighs = s.weighs;
+        counted = s.counted;
       },
       refl,
     )
 
 -- ---- what may be called again
 
-pub ready_directed : (old new : DiskView) (heap : StoreState) (homes : ℕ) (cache : List Numbered) (d : NewDirectory) → heap.top ≡ 0 → IsReady old heap → (old.image ≡ None → new.image ≡ None) → IsCacheOf new homes cache
+pub ready_directed : (old new : DiskView) (heap : HeapState) (homes : ℕ) (cache : List Numbered) (d : NewDirectory) → heap.top ≡ 0 → IsReady old heap → (old.image ≡ None → new.image ≡ None) → IsCacheOf new homes cache
     → ((s : IsPlainStore old heap.homes heap.places heap.free) → HoldsDirectory new homes d heap.places heap.free s.pages s.held) → IsReady new (record (directed_state d heap) { homes = homes; cache = cache })
 unfolding plain_of
 ready_directed old new heap homes cache d none ready untold is holds = record {
@@ -130,8 +128,8 @@ ready_directed old new heap homes cache d none ready untold is holds = record {
 
 -- ---- as the call of a heap's parts gives it
 
-module _ (old new : DiskView) (heap : StoreState) (homes : ℕ) (places : List EntryAt) (free : List ℕ) (is_homes : homes ≡ heap.homes) (is_places : places ≡ heap.places) (is_free : free ≡ heap.free) (none : heap.top ≡ 0) where
-  pub direct_moves : ((p : IsPlainStore old homes places free) → LeavesMap old new p.held) → (s : StoreStands old heap) → LeavesMap old new s.held
+module _ (old new : DiskView) (heap : HeapState) (homes : ℕ) (places : List EntryAt) (free : List ℕ) (is_homes : homes ≡ heap.homes) (is_places : places ≡ heap.places) (is_free : free ≡ heap.free) (none : heap.top ≡ 0) where
+  pub direct_moves : ((p : IsPlainStore old homes places free) → LeavesMap old new p.held) → (s : HeapStands old heap) → LeavesMap old new s.held
   unfolding plain_of
   direct_moves moves s =
       subst (λ (f : List ℕ). (p : IsPlainStore old heap.homes heap.places f) → LeavesMap old new p.held) is_free
@@ -147,11 +145,11 @@ module _ (old new : DiskView) (heap : StoreState) (homes : ℕ) (places : List E
       (subst (λ (h : ℕ). (p : IsPlainStore old h places free) → HoldsDirectory new after d places free p.pages p.held) is_homes holds))
 
   pub direct_holds : (after : ℕ) (cache : List Numbered) (d : NewDirectory) → ((p : IsPlainStore old homes places free) → HoldsDirectory new after d places free p.pages p.held)
-      → (s : StoreStands old heap) → (t : StoreStands new (record (directed_state d heap) { homes = after; cache = cache })) × (t.held ≡ s.held)
+      → (s : HeapStands old heap) → (t : HeapStands new (record (directed_state d heap) { homes = after; cache = cache })) × (t.held ≡ s.held)
   unfolding plain_of
   direct_holds after cache d holds s = stands_directed old heap s none new after cache d (holds_there after d holds (plain_of old heap s none))
 
-pub ready_err : (T : Type 0) (fault : KeepFault) (old new : DiskView) (heap : StoreState) (homes : ℕ) (cache : List Numbered) → IsReady old heap → homes ≡ heap.homes → (fault ≡ Memory → IsSame old new × (cache ≡ heap.cache)) → (fault ≡ Full → ⊥)
+pub ready_err : (T : Type 0) (fault : KeepFault) (old new : DiskView) (heap : HeapState) (homes : ℕ) (cache : List Numbered) → IsReady old heap → homes ≡ heap.homes → (fault ≡ Memory → IsSame old new × (cache ≡ heap.cache)) → (fault ≡ Full → ⊥)
     → IsReadyUnlessDisk {T = T} (Err fault) new (record heap { homes = homes; cache = cache })
 ready_err T Memory old new heap homes cache ready is memory full =
     let m = memory refl in

@@ -1,11 +1,11 @@
 -- A store without a directory, with one made for it.
 use Rattle.std.specs.Prelude.{map}
-use Rattle.std.proofs.Common.{◌≡◌, ◌⊎◌, inl, inr, ⊎_elim, ℕ, zero, suc, All, get_or, ◌+◌, ◌-◌, ◌*◌, ◌^◌, max, ◌≤◌, ◌<◌, List, [], ◌∷◌, length, drop, ◌++◌, Some, refl, sym, ap, subst, ◌∙◌, arith}
+use Rattle.std.proofs.Common.{◌≡◌, inl, inr, ⊎_elim, ℕ, zero, suc, All, get_or, ◌+◌, ◌-◌, ◌^◌, max, ◌≤◌, ◌<◌, List, [], ◌∷◌, length, drop, ◌++◌, refl, sym, ap, subst, ◌∙◌, arith}
 use Rattle.ct_site.specs.Disks.{DiskView, Leaves, leaves_more, leaves_none}
 use Rattle.ct_site.specs.Lengths.{Lengthens}
 use Rattle.ct_site.specs.laws.Lengths.{grows_more}
 use Rattle.pg_journal.specs.Pages.{Numbered, AreBetween, changed}
-use Rattle.pg_journal.specs.Recovered.{IsRecovered, number_pages}
+use Rattle.pg_journal.specs.Recovered.{IsRecovered}
 use Rattle.pg_journal.specs.Standing.{DiskStands, IsEither, MayCommit, commit_end, homes_with}
 use Rattle.pg_journal.specs.laws.PageRuns.{length-root, root_homes}
 use Rattle.pg_map.specs.Holding.{IsLayout, times}
@@ -14,10 +14,10 @@ use Rattle.pg_directory.specs.declared.entries.Child.{Child}
 use Rattle.pg_directory.specs.declared.entries.EntryAt.{EntryAt}
 use Rattle.pg_directory.specs.declared.making.NewDirectory.{NewDirectory}
 use Rattle.pg_directory.specs.Building.{above_of}
-use Rattle.pg_directory.specs.Holding.{HoldsMap, HasTop, RecoversTo}
-use Rattle.pg_directory.specs.Leaves.{leaf_at, leaf_child, leaves_for}
+use Rattle.pg_directory.specs.Holding.{HoldsMap}
+use Rattle.pg_directory.specs.Leaves.{leaf_at, leaf_child}
 use Rattle.pg_directory.specs.Levels.{pages_of, HasLevels}
-use Rattle.pg_directory.specs.Looking.{store_pages, DiskHolds}
+use Rattle.pg_directory.specs.Looking.{store_pages}
 use Rattle.pg_directory.specs.Making.{IsMadeOn, IsNewDirectory, new_pages}
 use Rattle.pg_directory.specs.Numbering.{AreRising, homes_taken, numbers_from}
 use Rattle.pg_directory.specs.laws.Numbering.{taken_rise}
@@ -29,10 +29,10 @@ use Rattle.pg_directory.specs.laws.Directing.{IsPlain, same_kinds, may_write, wr
 use Rattle.pg_directory.specs.laws.Levels.{directory_of_levels}
 use Rattle.pg_directory.specs.laws.OpenStore.{directory_low}
 use Rattle.pg_directory.specs.laws.Written.{length-writes, length-free, store_written}
-use Rattle.pg_heap.specs.FreePlaces.{ListsFree}
+use Rattle.pg_plan.specs.FreePlaces.{ListsFree}
 use Rattle.pg_heap.proofs.DirectFrees.{left_listed}
-use Rattle.pg_heap.proofs.Directs.{count_batch}
-use Rattle.pg_heap.proofs.StoreFrees.{levels_low}
+use Rattle.pg_heap.proofs.DirectCommits.{count_batch}
+use Rattle.pg_heap.proofs.Frees.{levels_low}
 use Rattle.pg_heap.specs.Directing.{new_writes, directory_batch, homes_directed, direct_end, IsPlainStore, HoldsDirectory, LeavesMap}
 
 module _ (old : DiskView) (homes : ℕ) (places : List EntryAt) (free : List ℕ) (d : NewDirectory) (n : IsNewDirectory homes free places d) (rise : AreRising 0 (homes - 3) free) (fits : d.top.page < 2 ^ 32) (s : IsPlainStore old homes places free) where

@@ -1,5 +1,5 @@
 -- A store without a directory gets one.
-use Rattle.std.specs.Prelude.{◌≡◌, ℕ, ◌+◌, ◌-◌, ◌*◌, ◌≤◌, ◌<◌, List, [], ◌∷◌, ◌++◌, length, drop, map, get_or, Some, refl}
+use Rattle.std.specs.Prelude.{◌≡◌, ℕ, ◌+◌, ◌-◌, ◌*◌, ◌<◌, List, ◌∷◌, ◌++◌, length, drop, map, get_or, Some, refl}
 use Rattle.ct_site.specs.Disks.{DiskView, Leaves}
 use Rattle.ct_keep.specs.Content.{Content}
 use Rattle.pg_journal.specs.Pages.{Numbered}
@@ -18,7 +18,7 @@ use Rattle.pg_directory.specs.Numbering.{homes_taken}
 use Rattle.pg_directory.specs.OpenStore.{ArePlaces}
 use Rattle.pg_directory.specs.Trees.{StorePage, kind_of, page_at, HasNoDirectory}
 use Rattle.pg_directory.specs.Written.{PageWrite, write_numbers, store_batch}
-use Rattle.pg_heap.specs.FreePlaces.{ListsFree}
+use Rattle.pg_plan.specs.FreePlaces.{ListsFree}
 
 -- the pages of a new directory
 abbrev pub new_writes : NewDirectory → List PageWrite

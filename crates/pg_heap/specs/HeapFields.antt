@@ -1,26 +1,21 @@
--- The fields of a heap.
-use Rattle.std.specs.Prelude.{◌≡◌, ◌+◌, length}
+-- The fields of a heap whose entries may stand in order in a directory.
+use Rattle.std.specs.Prelude.{◌≡◌, refl}
 use Rattle.pg_heap.specs.declared.heaps.Heap.TheInside.{Inside}
-use Rattle.pg_map.specs.Sheets.{sheet_kinds}
 use Rattle.pg_heap.specs.Heaps.{HeapState}
-use Rattle.pg_heap.specs.HeapPages.{IsSound}
-use Rattle.pg_heap.specs.FreePlaces.{ListsFree}
-use Rattle.std.proofs.Common.{[], ap, refl}
 
-abbrev pub heap_of : Inside → HeapState
-heap_of h = record { homes = h.journal; kinds = sheet_kinds h.pages.sheets.items; held = h.pages.held }
+abbrev pub heap_state : Inside → HeapState
+heap_state h = record {
+  homes = h.journal;
+  cache = h.cache;
+  top = h.top;
+  inner = h.directory.inner.items;
+  leaves = h.directory.leaves.items;
+  places = h.places.items;
+  free = h.hints.free.now;
+  weight = h.total;
+  counts = h.counts;
+}
 
--- The pages hold the map, each key stands where the places say, the journal knows how many pages there are, and the free ones are listed.
-pub record IsHeap (h : Inside) : Type 0 where
-  pub sound : IsSound h.pages
-  pub homes : h.journal ≡ 3 + length (sheet_kinds h.pages.sheets.items)
-  pub listed : ListsFree (sheet_kinds h.pages.sheets.items) h.hints.free.now
-  pub settled : h.hints.free.now ≡ h.hints.free.before
-
--- ---- example: a heap without sheets has no pages behind the root
-no_sheets : (h : Inside) → h.pages.sheets.items ≡ [] → (heap_of h).kinds ≡ []
-no_sheets h none = ap sheet_kinds none
-
--- ---- computed example: the map of a heap is that of its pages
-the_map_of_its_pages : (h : Inside) → (heap_of h).held ≡ h.pages.held
-the_map_of_its_pages h = refl
+-- ---- computed example: the top of a heap is the page that its root names
+its_top : (h : Inside) → (heap_state h).top ≡ h.top
+its_top h = refl

@@ -1,9 +1,3 @@
-pub mod Applying
-pub mod ChangedPages
-pub mod Commits
-pub mod Committing
-pub mod Heaps
-pub mod LooseSteps
-pub mod Planned
+pub mod BatchLengths
+pub mod Batches
 pub mod Recovering
-pub mod RoughEnds

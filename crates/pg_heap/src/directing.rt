@@ -1,24 +1,27 @@
 //! The directory of a store that has none, made and committed.
 
-ghost use Rattle.std.specs.Prelude.{◌≡◌, ◌⊎◌, ◌≤◌, ◌<◌, ◌+◌, ◌-◌, ◌*◌, ◌^◌, Err, IfErr, IfOk, OnErr, OnOk, IsTrue, IsFalse, length};
+ghost use Rattle.std.specs.Prelude.{◌≡◌, ◌⊎◌, ◌≤◌, ◌<◌, ◌+◌, ◌-◌, ◌*◌, ◌^◌, Err, IfErr, IfOk, OnErr, OnOk, IsTrue, IsFalse, drop, length};
 ghost use Rattle.ct_site.specs.Disks.{IsSame, Leaves};
 ghost use Rattle.ct_site.specs.Lengths.{Lengthens};
 ghost use Rattle.pg_cache.specs.Caches.{IsCacheOf};
 ghost use Rattle.pg_journal.specs.Pages.{AreBetween, changed};
 ghost use Rattle.pg_journal.specs.Standing.{commit_end, DiskStands, IsEither, MayCommit, OverPages};
 ghost use Rattle.pg_directory.specs.Leaves.{leaves_for};
-ghost use Rattle.pg_directory.specs.Making.{IsNewDirectory};
+ghost use Rattle.pg_change.specs.Resting.{IsResting};
+ghost use Rattle.pg_directory.specs.Making.{IsNewDirectory, new_pages};
 ghost use Rattle.pg_directory.specs.Numbering.{homes_taken, AreRising};
-ghost use Rattle.pg_heap.specs.Commits.{CommitsPages};
+ghost use Rattle.pg_change.specs.Commits.{CommitsPages};
 ghost use Rattle.pg_heap.specs.Directing.{batch_numbers, directory_batch, direct_end, homes_directed, IsPlainStore, HoldsDirectory, LeavesMap};
 ghost use Rattle.pg_heap.specs.Once.{between_once, numbers_once};
 
+use crate::loading::sheets_at_rest;
 use ct_base::Memory;
 use ct_keep::KeepFault;
 use ct_site::{Disk, Failed};
 use pg_cache::PageCache;
 use pg_directory::{EntryAt, NewDirectory, inner_page, leaf_page, make_directory};
 use pg_journal::{ChangedPages, Journal, root_bytes};
+use pg_window::Sheet;
 use std::alloc::Global;
 
 /// The root and the pages of a new directory. The image of each is made of what is in memory.
@@ -100,7 +103,7 @@ fn numbers_of(alloc: Global, made: &NewDirectory) -> Result<Vec<u32>, Memory>
     Ok(numbers)
 }
 
-/// Whether a place isn't below one, and below another.
+/// Whether a place is at least `low` and below `end`.
 fn is_between(place: usize, low: usize, end: usize) -> bool
     ensures yes { IsTrue result → (low ≤ place) × (place < end) }
     ensures no { IsFalse result → low ≤ place → place < end → ⊥ }
@@ -141,14 +144,45 @@ fn top_of(made: &NewDirectory) -> u32
     made.top.page
 }
 
+/// How many pages a new directory has.
+pub(crate) fn pages_taken(made: &NewDirectory) -> usize
+    ensures { result ≡ new_pages made.now }
+{
+    made.leaves.len() + made.upper.len()
+}
+
+/// The places without so many of the first.
+fn without_first(places: &[usize], count: usize) -> &[usize]
+    requires { count ≤ length places.now }
+    ensures { result.now ≡ drop count places.now }
+{
+    &places[count..]
+}
+
+/// The pages of a store of so many homes with a new directory, whose first pages were these free ones. Nothing is in memory of them.
+fn sheets_with(
+    alloc: Global,
+    homes: u32,
+    free: &[usize],
+    made: &NewDirectory,
+) -> Result<Vec<Sheet>, Memory>
+    requires { 3 ≤ homes }
+    ensures { IfOk result (λ sheets. IsResting sheets.items homes (drop (new_pages made.now) free.now)) }
+{
+    let taken = pages_taken(made).min(free.len());
+    let sheets = sheets_at_rest(alloc, homes, without_first(free, taken))?;
+    Ok(sheets)
+}
+
 /// Gives a store without a directory one, in one commit: the leaves and the pages above them of entries whose places are given in order,
 /// on some of these free pages and behind all others. At each moment the disk recovers to the same map. It takes memory for the places of
-/// the entries and some bytes a page. After Disk the store is loaded again.
+/// the entries and some bytes a page. Afterwards nothing is in memory of its pages. After Disk the store is loaded again.
 pub(crate) fn direct_store<D: Disk>(
     alloc: Global,
     disk: &mut D,
     cache: &mut PageCache,
     journal: &mut Journal,
+    sheets: &mut Vec<Sheet>,
     places: &[EntryAt],
     free: &[usize],
 ) -> Result<NewDirectory, KeepFault>
@@ -159,6 +193,8 @@ pub(crate) fn direct_store<D: Disk>(
     ensures made { IfOk result (λ made. IsNewDirectory journal.old free.now places.now made) }
     ensures homes { IfOk result (λ made. journal.new ≡ homes_directed journal.old free.now made) }
     ensures cache { OnOk result (IsCacheOf (D.disk disk.new) journal.new cache.new) }
+    ensures rests { IfOk result (λ made. IsResting sheets.new.items journal.new (drop (new_pages made) free.now)) }
+    ensures kept { OnErr result (sheets.new ≡ sheets.old) }
     ensures err { OnErr result (journal.new ≡ journal.old) }
     ensures memory { result ≡ Err KeepFault.Memory → IsSame (D.disk disk.old) (D.disk disk.new) × (cache.new ≡ cache.old) }
     ensures full { result ≡ Err KeepFault.Full → ⊥ }
@@ -180,9 +216,15 @@ pub(crate) fn direct_store<D: Disk>(
         return Err(KeepFault::Memory);
     };
     let after = homes_with(homes, free.len(), &made);
+    let Ok(rested) = sheets_with(alloc, after, free, &made) else {
+        return Err(KeepFault::Memory);
+    };
     let _top = top_of(&made);
     match commit_directory(disk, cache, journal, &made, &numbers, after) {
-        Ok(()) => Ok(made),
+        Ok(()) => {
+            *sheets = rested;
+            Ok(made)
+        }
         Err(fault) => Err(fault),
     }
 }

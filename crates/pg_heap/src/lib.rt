@@ -1,25 +1,13 @@
 //! The heap of the store file: the map that its pages hold, loaded from a disk and changed by whole batches.
 #![tactic(auto)]
 
-mod batch_plans;
-mod changes;
-mod commits;
+mod applying;
+mod batches;
 mod directing;
-mod drafts;
-mod entering;
-mod forgetting;
-mod free_lists;
+mod directs;
 mod heaps;
-mod hints;
 mod loading;
-mod pages;
-mod plans;
-mod puts;
-mod slots;
-mod store_directs;
-mod store_heaps;
-mod store_loading;
+mod owner_counting;
 
 pub use heaps::Heap;
-pub use store_heaps::StoreHeap;
-pub use store_loading::{LoadedStore, load_store};
+pub use loading::{LoadedStore, load_store};

@@ -6,7 +6,7 @@ ghost use Rattle.pg_journal.specs.Pages.{AreBetween, Numbered};
 ghost use Rattle.pg_journal.specs.Standing.{homes_with};
 
 /// Pages that are to be committed together, in order of their numbers. The image of a page, its 4096 bytes, is made when it is
-/// written: so a commit has one image in memory at a time, however many pages there are.
+/// written: so a commit itself has one image in memory at a time, however many pages there are.
 pub trait ChangedPages {
     /// The number and the image of each page.
     ghost pages: { Self → List Numbered };

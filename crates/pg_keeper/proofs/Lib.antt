@@ -1,1 +1,2 @@
+pub mod DirectLoads
 pub mod Loads

@@ -11,8 +11,8 @@ use pg_heap::Heap;
 use std::alloc::Global;
 
 /// A keeper of a content in the pages of a store file, which hears and says by the site that has the file. It holds the entries
-/// that its shape takes. A look-up, and each change of a commit, cost the logarithm of the number of entries; a commit also writes
-/// the pages that it changes, and syncs four times at most.
+/// that its shape takes. A look-up, and each change of a commit, cost the logarithm of the number of entries; a commit also goes over the
+/// list of all leaves of the directory in memory, writes the pages that it changes, and syncs four times at most.
 pub struct PagedKeeper<'a, S, H> {
     site: &'a mut S,
     heap: Heap,

@@ -1,5 +1,5 @@
 -- The bytes of a long page, by two writes.
-use Rattle.std.proofs.Common.{◌≡◌, ◌≤◌, ℕ, ◌-◌, List, ◌∷◌, ◌++◌, length, sym, ap, ◌∙◌, append_assoc}
+use Rattle.std.proofs.Common.{◌≡◌, ◌≤◌, ℕ, ◌-◌, List, ◌++◌, length, sym, ap, ◌∙◌, append_assoc}
 use Rattle.std.proofs.lemmas.List.{drop-replicate, drop-drop}
 use Rattle.ct_site.specs.Images.{written}
 use Rattle.ct_base.specs.Zeros.{zeros}

@@ -7,8 +7,6 @@ pub mod Loose
 pub mod MapLaws
 pub mod MapReading
 pub mod PageStrings
-pub mod Places
-pub mod ReadEntries
 pub mod Readings
 pub mod SheetReading
 pub mod Sheets

@@ -3,7 +3,6 @@ pub mod Loose
 pub mod MapReading
 pub mod OneMap
 pub mod PageStrings
-pub mod Sheets
 pub mod Standing
 pub mod ValueReads
 pub mod Whole

@@ -1,12 +1,8 @@
 //! The map that the pages of the store file hold: what pages and strings mean, and the map that is read from them.
 #![tactic(auto)]
 
-mod building;
-mod chain_reading;
 mod item_reading;
 mod items;
-mod places;
-mod readings;
 mod sheet_reading;
 mod sheets;
 
@@ -14,8 +10,6 @@ ghost use Rattle.pg_map.specs.MapLaws.{PagesAreRead, PagesHoldOneMap};
 
 pub use item_reading::{Form, item_of};
 pub use items::{far_in, far_string, key_in, short_string};
-pub use places::{PlaceChanges, Places};
-pub use readings::{free_places, read_map};
 pub use sheet_reading::sheet_of;
 pub use sheets::{Sheet, long_bytes, root_bytes};
 

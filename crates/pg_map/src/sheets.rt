@@ -1,4 +1,4 @@
-//! The pages behind the root, as they are kept in memory.
+//! The pages behind the root, by their kinds, as they are read from their bytes.
 
 ghost use Rattle.std.specs.Prelude.{◌≡◌, ◌≤◌, ◌+◌, length};
 ghost use Rattle.pg_journal.specs.Pages.{root_page};

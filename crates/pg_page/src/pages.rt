@@ -101,6 +101,17 @@ impl Page {
         }
     }
 
+    /// The same page once more. It takes no memory.
+    pub fn copy(&self) -> Page
+        ensures { result ≡ self.now }
+    {
+        Page {
+            bytes: self.bytes,
+            count: self.count,
+            low: self.low,
+        }
+    }
+
     /// The bytes of the page.
     pub fn bytes(&self) -> &[u8; 4096]
         ensures { result.now ≡ page_bytes self.now }

@@ -23,8 +23,8 @@ loop-i-preserved g c = record {
   reads = reads_further _ _ _ c.in-Ok.found c.loop-i.invariant.reads c.in-Ok.ensures.works;
   named = λ top pages es holds are.
       let n = next_leaf pages holds.are c.args.leaves.now c.loop-i.i es c.loop-i.places.items c.loop-i-test.true (c.loop-i.invariant.named top pages es holds are) in
-      let b = given_behind c.in-Ok.found c.in-Some.page _ c.in-Ok.ensures.behind c.in-Some.is in
-      let page = page_given c.in-Ok.found _ c.in-Some.page (c.in-Ok.ensures.page top pages (holds_then _ _ _ _ pages c.loop-i.invariant.same holds) b.0 b.1) c.in-Some.is in
+      let b = given_behind c.in-Ok.found c.in-Some.kept _ c.in-Ok.ensures.behind c.in-Some.is in
+      let page = page_given c.in-Ok.found _ _ _ c.page.result.now (c.in-Ok.ensures.page top pages (holds_then _ _ _ _ pages c.loop-i.invariant.same holds) b.0 b.1) c.in-Some.is c.page.ensures in
       n.on c.put_named.new.into.items (c.in-Ok-put_named.ensures n.own n.good (page ∙ ap bytes_of_page n.at));
 }
 

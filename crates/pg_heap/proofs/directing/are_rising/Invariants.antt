@@ -1,4 +1,4 @@
-use Rattle.pg_heap.proofs.Directs.{RiseOn}
+use Rattle.pg_heap.proofs.DirectCommits.{RiseOn}
 use Rattle.pg_heap.proofs.directing.are_rising.Given as goal
 
 abbrev pub invariant-loop-i : goal.invariant-loop-i

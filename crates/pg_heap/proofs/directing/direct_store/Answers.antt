@@ -1,5 +1,5 @@
 use Rattle.std.specs.Prelude.{IfSome}
-use Rattle.std.proofs.Common.{◌≡◌, ◌<◌, ◌+◌, ◌-◌, ◌^◌, inr, ℕ, List, refl, sym, ap, subst, ◌∙◌, arith}
+use Rattle.std.proofs.Common.{◌<◌, ◌-◌, ◌^◌, inr, ℕ, List, refl, sym, ap, subst, ◌∙◌, arith}
 use Rattle.ct_site.specs.Disks.{Leaves}
 use Rattle.ct_site.specs.Lengths.{Lengthens}
 use Rattle.pg_journal.specs.Pages.{changed, AreBetween}
@@ -33,6 +33,9 @@ returns-in_default-found-clause-moments g c = λ s.
 
 pub returns-in_default-numbers_of-clause-moments : goal.returns-in_default-numbers_of-clause-moments
 returns-in_default-numbers_of-clause-moments g c = λ s. none_keeps (g.D.Disk.disk c.args.disk.now) c.args.journal.now c.args.places.now c.args.free.now s
+
+pub returns-in_default-sheets_with-clause-moments : goal.returns-in_default-sheets_with-clause-moments
+returns-in_default-sheets_with-clause-moments g c = λ s. none_keeps (g.D.Disk.disk c.args.disk.now) c.args.journal.now c.args.places.now c.args.free.now s
 
 pub commit_directory-requires-clause-between : goal.commit_directory-requires-clause-between
 commit_directory-requires-clause-between g c =

@@ -1,6 +1,6 @@
-use Rattle.std.proofs.Common.{◌≡◌, List, length, ap, ◌∙◌, arith}
+use Rattle.std.proofs.Common.{List, length, ap, ◌∙◌, arith}
 use Rattle.pg_directory.specs.declared.building.InnerPage.{InnerPage}
-use Rattle.pg_heap.proofs.Directs.{all_numbers}
+use Rattle.pg_heap.proofs.DirectCommits.{all_numbers}
 use Rattle.pg_heap.proofs.directing.numbers_of.Goals as goal
 
 pub returns : goal.returns

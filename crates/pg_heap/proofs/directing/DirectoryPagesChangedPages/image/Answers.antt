@@ -1,12 +1,11 @@
 use Rattle.std.proofs.Common.{◌≡◌, ◌-◌, ◌^◌, ℕ, List, length, get_or, sym, ap, ◌∙◌, arith}
-use Rattle.pg_journal.specs.BatchStates.{image_at}
 use Rattle.pg_directory.specs.declared.building.InnerPage.{InnerPage}
 use Rattle.pg_directory.specs.declared.entries.Child.{Child}
 use Rattle.pg_directory.specs.declared.entries.EntryAt.{EntryAt}
 use Rattle.pg_directory.specs.declared.leaves.LeafPage.{LeafPage}
 use Rattle.pg_directory.specs.Pages.{Leaf, Inner, directory_bytes}
 use Rattle.pg_heap.specs.Directing.{directory_batch}
-use Rattle.pg_heap.proofs.Directs.{image_of_leaf, image_of_above, count_batch, length_at, leaf_room, inner_room}
+use Rattle.pg_heap.proofs.DirectCommits.{image_of_leaf, image_of_above, count_batch, length_at, leaf_room, inner_room}
 use Rattle.pg_heap.proofs.directing.DirectoryPagesChangedPages.image.Goals as goal
 
 pub leaf_page-requires : goal.leaf_page-requires

@@ -1,5 +1,5 @@
 use Rattle.std.proofs.Common.{◌∙◌}
-use Rattle.pg_heap.proofs.Directs.{numbers_there}
+use Rattle.pg_heap.proofs.DirectCommits.{numbers_there}
 use Rattle.pg_heap.proofs.directing.DirectoryPagesChangedPages.numbers.Goals as goal
 
 pub returns-clause-numbers : goal.returns-clause-numbers

@@ -1,0 +1,9 @@
+pub mod Asking
+pub mod BatchPages
+pub mod ByKey
+pub mod Counts
+pub mod Places
+pub mod RoughPages
+pub mod Strings
+pub mod Weights
+pub mod laws

@@ -1,0 +1,16 @@
+pub mod Batches
+pub mod KeyEdits
+pub mod Made
+pub mod Next
+pub mod NotedEdits
+pub mod Unmoved
+pub mod BatchCommits
+pub mod Commits
+pub mod DirectoryImages
+pub mod ImagePages
+pub mod Once
+pub mod Planning
+pub mod Rebuilding
+pub mod BatchWindows
+pub mod Resting
+pub mod laws

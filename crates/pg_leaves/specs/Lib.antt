@@ -1,0 +1,4 @@
+pub mod Editing
+pub mod Finding
+pub mod Relisting
+pub mod laws

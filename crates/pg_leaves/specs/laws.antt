@@ -1,0 +1,4 @@
+pub mod Editing
+pub mod Levels
+pub mod Listing
+pub mod Relisting

@@ -1,0 +1,10 @@
+pub mod AllChanges
+pub mod Numbering
+pub mod Changing
+pub mod Copying
+pub mod DirectoryChanges
+pub mod Drafting
+pub mod Planning
+pub mod Replacing
+pub mod Stepping
+pub mod Taking

@@ -1,0 +1,23 @@
+use Rattle.std.proofs.Common.{arith, sym, ap, ◌∙◌}
+use Rattle.pg_map.specs.Kinds.{Slotted}
+use Rattle.pg_window.specs.Sheets.{sheet_kind, is_away}
+use Rattle.pg_plan.specs.laws.Away.{here_known}
+use Rattle.pg_plan.proofs.puts.taking.Goals as goal
+
+pub overflow_cast-number : goal.overflow_cast-number
+overflow_cast-number c = let w = c.in_ok-number.ensures.some.within in omega (arith, w, c.find.ensures.fits)
+
+pub returns-clause-some : goal.returns-clause-some
+returns-clause-some c = record {
+  within = omega (arith, c.if-at-count.false, c.count.ensures);
+  strings = c.deref-page.result.now;
+  kind = sym c.sheet.ensures.kind ∙ ap sheet_kind c.in-Slotted.is ∙ ap Slotted (sym c.deref-page.ensures);
+  number = c.in_ok-number.number;
+  key_is = c.in_ok-number.ensures.some;
+  rest_is = c.without.ensures;
+  fits = c.find.ensures.fits;
+  far = λ item good is. c.far_in-first.ensures item good (c.in_ok-string.ensures.1 ∙ is);
+}
+
+pub returns-clause-here : goal.returns-clause-here
+returns-clause-here c = here_known c.args.draft.now c.args.at (is_away c.sheet.result.now) c.sheet.ensures.away (ap is_away c.in-Slotted.is)

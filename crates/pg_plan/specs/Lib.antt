@@ -1,0 +1,11 @@
+pub mod Changes
+pub mod DirectoryPages
+pub mod DraftFields
+pub mod Drafts
+pub mod FreeFields
+pub mod FreePlaces
+pub mod PlanSteps
+pub mod Planned
+pub mod Slots
+pub mod Touched
+pub mod laws

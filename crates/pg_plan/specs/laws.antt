@@ -1,0 +1,9 @@
+pub mod Away
+pub mod Bare
+pub mod Exchanging
+pub mod Freeing
+pub mod KeyOrders
+pub mod LooseSteps
+pub mod Needs
+pub mod Planned
+pub mod Touched

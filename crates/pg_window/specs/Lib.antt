@@ -1,0 +1,4 @@
+pub mod Loading
+pub mod Sheets
+pub mod Windows
+pub mod laws
