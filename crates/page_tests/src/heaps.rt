@@ -1,235 +1,261 @@
 //! A heap over a disk in memory: entries that come, change and go, in pages that are counted in the image.
 
-ghost use Rattle.std.specs.Prelude.{◌≤◌};
-
-use ct_base::{Memory, Numbers};
-use ct_keep::Batch;
-use ct_site::{Faults, MemSite, Rooms};
-use pg_heap::Heap;
+use crate::stores::{Step, are_done, are_done_anew, has_top, homes_of, pages_of, site_of};
+use ct_base::Memory;
+use ct_site::MemSite;
 use std::alloc::Global;
 use std::test::Fail;
 
-const ROOMS: Rooms = Rooms {
-    image: 400000,
-    said: 0,
-    calls: 400,
-    written: 900000,
-};
-
-/// A new store, of which this call of the disk fails, if there is one; 0 for none.
-fn site_of(alloc: Global, call: u64) -> Result<MemSite, Memory> {
-    let mut faults = Faults::none(alloc);
-    faults.disk = Numbers::of(Vec::from_slice(alloc, &[call])?);
-    MemSite::new(alloc, Vec::new(alloc), Vec::new(alloc), faults, ROOMS)
+/// How many long pages there are, how many pages of the directory, and whether the root names one.
+fn sheet_kinds(image: &[u8]) -> (usize, usize, bool) {
+    (pages_of(image, 2), pages_of(image, 3), has_top(image))
 }
 
-/// The heap of a new store.
-fn heap_of(alloc: Global, site: &mut MemSite) -> Option<Heap> {
-    Heap::load(alloc, site).ok()
-}
+/// Steps, how many long pages there are then, and whether there is a directory, of one page.
+type Stage = (&'static [Step], usize, bool);
 
-/// Whether a key of one byte gets a value of so many bytes 7.
-fn is_put(
-    alloc: Global,
-    heap: &mut Heap,
-    site: &mut MemSite,
-    key: u8,
-    count: usize,
-) -> Result<bool, Memory>
-    requires { count ≤ 9000 }
-{
-    let value = vec![in alloc; 7; count]?;
-    let mut batch = Batch::new(alloc);
-    batch.put(Vec::from_slice(alloc, &[key])?, value)?;
-    Ok(heap.apply(alloc, site, batch).is_ok())
-}
+/// A value of each length. The greatest in the first form has 4,080 bytes, beside a key of one byte.
+const FILLING: &[Step] = &[
+    Step::Put(0, 0),
+    Step::Put(1, 1),
+    Step::Put(2, 4000),
+    Step::Put(3, 4079),
+    Step::Put(4, 4080),
+    Step::Put(5, 4088),
+    Step::Put(6, 4089),
+    Step::Put(7, 9000),
+];
 
-/// Whether the entry of a key of one byte goes.
-fn is_removed(alloc: Global, heap: &mut Heap, site: &mut MemSite, key: u8) -> Result<bool, Memory> {
-    let mut batch = Batch::new(alloc);
-    batch.remove(Vec::from_slice(alloc, &[key])?)?;
-    Ok(heap.apply(alloc, site, batch).is_ok())
-}
+const FILLED: &[Step] = &[
+    Step::Has(0, 0),
+    Step::Has(1, 1),
+    Step::Has(2, 4000),
+    Step::Has(3, 4079),
+    Step::Has(4, 4080),
+    Step::Has(5, 4088),
+    Step::Has(6, 4089),
+    Step::Has(7, 9000),
+    Step::Lacks(8),
+];
 
-/// How many bytes the value of a key of one byte has, if it is there and each byte is 7.
-fn count_of(alloc: Global, heap: &mut Heap, site: &mut MemSite, key: u8) -> Option<usize> {
-    let Ok(Some(value)) = heap.fetch(alloc, site, &[key]) else {
-        return None;
-    };
-    for byte in &value {
-        if *byte != 7 {
-            return None;
-        }
-    }
-    Some(value.len())
-}
+const EMPTYING: &[Step] = &[
+    Step::Remove(0),
+    Step::Remove(1),
+    Step::Remove(2),
+    Step::Remove(3),
+    Step::Remove(4),
+    Step::Remove(5),
+    Step::Remove(6),
+    Step::Remove(7),
+    Step::Empty,
+];
 
-/// How many pages behind the root, of fewer than 256 home pages, begin with this byte: 0 for free ones, 1 for slotted ones, 2 for long ones.
-fn pages_of(image: &[u8], first: u8) -> usize {
-    let Some(homes) = image.get(8199) else {
-        return 0;
-    };
-    let mut count = 0usize;
-    for page in 3..*homes as usize {
-        if image.get(4096 * page) == Some(&first) {
-            count = count.saturating_add(1);
-        }
-    }
-    count
-}
+/// Stages over a store that is new at first, and how many home pages it has then: each page that is free is taken again.
+type Case = (&'static [Stage], u8);
 
-/// How many bytes the value of a key has. The greatest value in the first form has 4,080 bytes, beside a key of one byte.
-fn count_at(key: u8) -> usize
-    ensures { result ≤ 9000 }
-{
-    match key {
-        0 => 0,
-        1 => 1,
-        2 => 4000,
-        3 => 4079,
-        4 => 4080,
-        5 => 4088,
-        6 => 4089,
-        _ => 9000,
-    }
-}
+const CASES: &[Case] = &[
+    // values of each length stand on four slotted pages, as one that is nearly full gets nothing, and on six long ones; a long one is
+    // replaced by a short one
+    (
+        &[
+            (FILLING, 6, true),
+            (FILLED, 6, true),
+            (&[Step::Put(7, 1), Step::Has(7, 1)], 3, true),
+        ],
+        14,
+    ),
+    // entries that go leave no long page, and the last one no directory; long pages are taken again
+    (
+        &[
+            (FILLING, 6, true),
+            (EMPTYING, 0, false),
+            (&[Step::Put(9, 9000), Step::Has(9, 9000)], 3, true),
+        ],
+        14,
+    ),
+    // a value that grows from short to long, and back
+    (
+        &[
+            (
+                &[Step::Put(1, 10), Step::Put(2, 20), Step::Has(1, 10)],
+                0,
+                true,
+            ),
+            (
+                &[Step::Put(1, 9000), Step::Has(1, 9000), Step::Has(2, 20)],
+                3,
+                true,
+            ),
+            (&[Step::Put(1, 4081), Step::Has(1, 4081)], 1, true),
+            (
+                &[Step::Put(1, 3), Step::Has(1, 3), Step::Has(2, 20)],
+                0,
+                true,
+            ),
+            (
+                &[
+                    Step::Remove(2),
+                    Step::Has(1, 3),
+                    Step::Remove(1),
+                    Step::Empty,
+                ],
+                0,
+                false,
+            ),
+        ],
+        8,
+    ),
+    // values that are read before they change, and then: a page that is kept in memory is never an old one
+    (
+        &[
+            (
+                &[
+                    Step::Put(1, 10),
+                    Step::Has(1, 10),
+                    Step::Put(1, 11),
+                    Step::Has(1, 11),
+                    Step::Put(2, 9000),
+                    Step::Has(2, 9000),
+                    Step::Put(2, 8999),
+                    Step::Has(2, 8999),
+                    Step::Put(1, 4090),
+                    Step::Has(2, 8999),
+                    Step::Has(1, 4090),
+                    Step::Remove(1),
+                    Step::Lacks(1),
+                    Step::Put(3, 2),
+                    Step::Lacks(1),
+                    Step::Has(2, 8999),
+                    Step::Has(3, 2),
+                ],
+                3,
+                true,
+            ),
+            (
+                &[Step::Lacks(1), Step::Has(2, 8999), Step::Has(3, 2)],
+                3,
+                true,
+            ),
+        ],
+        10,
+    ),
+];
 
-/// Whether all keys get their values.
-fn is_filled(alloc: Global, heap: &mut Heap, site: &mut MemSite) -> Result<bool, Memory> {
-    for key in 0..8 {
-        if !is_put(alloc, heap, site, key, count_at(key))? {
-            return Ok(false);
-        }
-    }
-    Ok(true)
-}
-
-/// Whether all keys have their values.
-fn is_full(alloc: Global, heap: &mut Heap, site: &mut MemSite) -> bool {
-    for key in 0..8 {
-        if count_of(alloc, heap, site, key) != Some(count_at(key)) {
-            return false;
-        }
-    }
-    true
-}
-
-/// Whether all entries go.
-fn is_emptied(alloc: Global, heap: &mut Heap, site: &mut MemSite) -> Result<bool, Memory> {
-    for key in 0..8 {
-        if !is_removed(alloc, heap, site, key)? {
-            return Ok(false);
-        }
-    }
-    Ok(true)
-}
-
-/// How many pages behind the root are long ones, and how many are others.
-fn sheet_kinds(site: &MemSite) -> (usize, usize) {
-    let image = site.image();
-    let others = pages_of(image, 0).saturating_add(pages_of(image, 1));
-    (pages_of(image, 2), others)
-}
-
-/// What is done with a heap.
-#[derive(Clone, Copy)]
-enum Case {
-    /// Every value is put, and then a long one is replaced by a short one.
-    Values,
-    /// Every value is put, and then all entries go.
-    Removals,
-    /// As before, and then a long value is put once more.
-    Reuse,
-}
-
-/// The long pages in the middle of a case and at its end, and whether the heap had what it should have.
-fn pages_in(
-    alloc: Global,
-    heap: &mut Heap,
-    site: &mut MemSite,
-    case: Case,
-) -> Result<(usize, usize, bool), Memory> {
-    let is_filled = is_filled(alloc, heap, site)? && is_full(alloc, heap, site);
-    let (long, others) = sheet_kinds(site);
-    let is_right = match case {
-        Case::Values => is_put(alloc, heap, site, 7, 1)?,
-        Case::Removals => is_emptied(alloc, heap, site)? && is_empty(alloc, heap, site),
-        Case::Reuse => is_emptied(alloc, heap, site)? && is_put(alloc, heap, site, 9, 9000)?,
-    };
-    let (left, rest) = sheet_kinds(site);
-    let is_steady = left.saturating_add(rest) <= long.saturating_add(others);
-    Ok((long, left, is_filled && is_right && is_steady))
-}
-
-/// Whether nothing is there.
-fn is_empty(alloc: Global, heap: &mut Heap, site: &mut MemSite) -> bool {
-    heap.weight() == 0 && matches!(heap.next_after(alloc, site, b""), Ok(None))
-}
-
-/// The same over a new store.
-fn pages_over(
+/// Whether a stage is as it is to be, where the heap is loaded once, or for each step.
+fn is_stage(
     alloc: Global,
     site: &mut MemSite,
-    case: Case,
-) -> Result<(usize, usize, bool), Memory> {
-    match heap_of(alloc, site) {
-        Some(mut heap) => pages_in(alloc, &mut heap, site, case),
-        None => Ok((0, 0, false)),
+    stage: &Stage,
+    is_anew: bool,
+) -> Result<bool, Memory> {
+    let (steps, long, is_named) = *stage;
+    let are_done = if is_anew {
+        are_done_anew(alloc, site, steps)?
+    } else {
+        are_done(alloc, site, steps)?
+    };
+    Ok(are_done && sheet_kinds(site.image()) == (long, is_named as usize, is_named))
+}
+
+/// The first stage that isn't as it is to be.
+fn wrong_stage(
+    alloc: Global,
+    site: &mut MemSite,
+    stages: &[Stage],
+    is_anew: bool,
+) -> Result<Option<usize>, Memory> {
+    for (number, stage) in stages.iter().enumerate() {
+        if !is_stage(alloc, site, stage, is_anew)? {
+            return Ok(Some(number));
+        }
     }
+    Ok(None)
 }
 
-fn pages_after(alloc: Global, case: Case) -> Result<(usize, usize, bool), Memory> {
-    let mut site = site_of(alloc, 0)?;
-    pages_over(alloc, &mut site, case)
+/// The same over a new store, and how many home pages it has then.
+fn case_outcome(
+    alloc: Global,
+    stages: &[Stage],
+    is_anew: bool,
+) -> Result<(Option<usize>, u8), Memory> {
+    let mut site = site_of(alloc, b"", 0)?;
+    let wrong = wrong_stage(alloc, &mut site, stages, is_anew)?;
+    Ok((wrong, homes_of(site.image())))
 }
 
-/// Values of each length stand on pages, entries that go leave no long page, and long pages are taken again.
-const CASES: &[(Case, usize)] = &[(Case::Values, 3), (Case::Removals, 0), (Case::Reuse, 3)];
-
+/// What is read from a page that is kept in memory is what was committed to it last.
 #[test]
-fn values_of_each_length_stand_on_pages(rt: HostRuntime) -> Result<(), Fail> {
-    for (case, left) in CASES {
-        assert_eq!(rt; pages_after(rt.alloc(), *case)?, (6, *left, true));
+fn values_stand_on_pages(rt: HostRuntime) -> Result<(), Fail> {
+    for (stages, homes) in CASES {
+        let found = case_outcome(rt.alloc(), stages, false)?;
+        assert!(rt; found == (None, *homes), "{found:?}");
     }
     Ok(())
 }
 
-/// Whether a value is put into a heap, and whether it is there then.
-fn is_put_and_there(
-    alloc: Global,
-    heap: &mut Heap,
-    site: &mut MemSite,
-) -> Result<(bool, bool), Memory> {
-    let is_put = is_put(alloc, heap, site, 1, 5000)?;
-    Ok((is_put, count_of(alloc, heap, site, 1).is_some()))
-}
-
-fn put_over(alloc: Global, site: &mut MemSite) -> Result<(bool, bool), Memory> {
-    match heap_of(alloc, site) {
-        Some(mut heap) => is_put_and_there(alloc, &mut heap, site),
-        None => Ok((false, true)),
+#[test]
+fn values_stand_on_pages_that_are_loaded_for_each_step(rt: HostRuntime) -> Result<(), Fail> {
+    for (stages, homes) in CASES {
+        let found = case_outcome(rt.alloc(), stages, true)?;
+        assert!(rt; found == (None, *homes), "{found:?}");
     }
+    Ok(())
 }
 
-/// Whether a heap goes on with its old map where a call of the disk fails.
-fn is_as_before(alloc: Global, call: u64) -> Result<bool, Memory> {
-    let mut site = site_of(alloc, call)?;
-    Ok(put_over(alloc, &mut site)? == (false, false))
+/// What there is behind a put over a new store.
+#[derive(Clone, Copy, PartialEq, Eq)]
+enum After {
+    /// It failed, and the store is as before.
+    Old,
+    /// It failed, and the value is there.
+    New,
+    Done,
+    Other,
 }
 
-/// How many calls of the disk, of the first forty, leave the old map where they fail.
-fn failures(alloc: Global) -> Result<u32, Memory> {
-    let mut failed = 0u32;
-    for call in 1..40 {
-        if is_as_before(alloc, call)? {
-            failed = failed.saturating_add(1);
+/// Whether a store of this image has nothing, and whether it has the value.
+fn value_in(alloc: Global, image: &[u8]) -> Result<(bool, bool), Memory> {
+    let mut site = site_of(alloc, image, 0)?;
+    let is_old = are_done(alloc, &mut site, &[Step::Lacks(1), Step::Empty])?;
+    Ok((is_old, are_done(alloc, &mut site, &[Step::Has(1, 5000)])?))
+}
+
+/// What there is where this call of the disk fails. The store is loaded again then.
+fn after_failing(alloc: Global, call: u64) -> Result<After, Memory> {
+    let mut site = site_of(alloc, b"", call)?;
+    let is_put = are_done(alloc, &mut site, &[Step::Put(1, 5000)])?;
+    Ok(match (is_put, value_in(alloc, site.image())?) {
+        (false, (true, false)) => After::Old,
+        (false, (false, true)) => After::New,
+        (true, (false, true)) => After::Done,
+        _ => After::Other,
+    })
+}
+
+/// How often there is this, over the first hundred calls of the disk.
+fn count_after(alloc: Global, wanted: After) -> Result<u32, Memory> {
+    let mut count = 0u32;
+    for call in 1..101 {
+        if after_failing(alloc, call)? == wanted {
+            count = count.saturating_add(1);
         }
     }
-    Ok(failed)
+    Ok(count)
 }
 
+/// The load of an empty file calls the disk ten times, and the commit of five pages twenty times: eleven of these until the gate is written,
+/// and nine from its sync on.
+const AFTER: &[(After, u32)] = &[
+    (After::Old, 21),
+    (After::New, 9),
+    (After::Done, 70),
+    (After::Other, 0),
+];
+
 #[test]
-fn a_commit_that_fails_leaves_the_map_in_memory(rt: HostRuntime) -> Result<(), Fail> {
-    assert!(rt; failures(rt.alloc())? > 8);
+fn a_commit_that_fails_leaves_the_old_map_or_the_new_one(rt: HostRuntime) -> Result<(), Fail> {
+    for (after, count) in AFTER {
+        assert_eq!(rt; count_after(rt.alloc(), *after)?, *count);
+    }
     Ok(())
 }

@@ -8,4 +8,8 @@ mod journals;
 #[cfg(test)]
 mod loading;
 #[cfg(test)]
+mod many;
+#[cfg(test)]
 mod pages;
+#[cfg(test)]
+mod stores;
