@@ -27,7 +27,7 @@ def number(data, at, size):
 
 
 def home_pages(image):
-    """Returns a function from the number of a home page to its bytes, and how many there are."""
+    """Returns the home pages from 3 on by their numbers, and the number of the page at the top of the directory, or 0."""
     need(len(image) >= 3 * PAGE and image[1:PAGE] == b"CTXSTORE" + bytes(PAGE - 9), "the mark isn't there")
     page = lambda i: image[PAGE * i : PAGE * i + PAGE]
     batch, end = {}, len(image) // PAGE
@@ -41,8 +41,8 @@ def home_pages(image):
         batch, end = {it: page(images + i) for i, it in enumerate(numbers)}, first
     root = batch.get(2, page(2))
     homes = number(root, 4, 4)
-    need(root == b"\4\0\0\0" + homes.to_bytes(4, "big") + bytes(PAGE - 8) and 3 <= homes <= min(end, 2**31), "there is no root")
-    return lambda i: batch.get(i, page(i)), homes
+    need(root[:4] == b"\4\0\0\0" and not any(root[12:]) and 3 <= homes <= min(end, 2**31), "there is no root")
+    return {i: batch.get(i, page(i)) for i in range(3, homes)}, number(root, 8, 4)
 
 
 def strings(page):
@@ -65,17 +65,37 @@ def long_page(page):
     return following, page[8 : 8 + used]
 
 
+def directory_page(page):
+    """Returns how far a page of the directory is above the leaves, and its items: places of entries, in a leaf, or else pages of the
+    directory, each with the place of the least entry below it. A place is the number of a page and that of a string on it."""
+    level, count = page[1], number(page, 2, 2)
+    size, most = (6, 681) if level == 0 else (10, 408)
+    end = 8 + size * count
+    need(1 <= count <= most and not any(page[4:8]) and not any(page[end:]), "a page of the directory is wrong")
+    place = lambda at: (number(page, at, 4), number(page, at + 4, 2))
+    return level, [place(at) if level == 0 else (number(page, at, 4), place(at + 4)) for at in range(8, end, size)]
+
+
+def places(pages, top, level=None, least=None):
+    """Returns the places that the leaves below a page of the directory name, from left to right, and takes its pages out of these."""
+    need(top in pages, "a page isn't one of the directory, or stands in it twice")
+    its_level, items = pages.pop(top)
+    need(level in (None, its_level), "a page of the directory is on a wrong level")
+    need(least in (None, items[0] if its_level == 0 else items[0][1]), "an entry isn't the least one below a page of the directory")
+    return items if its_level == 0 else [it for child, first in items for it in places(pages, child, its_level - 1, first)]
+
+
 def entries(image):
     """Returns the map of the file's entries."""
     if len(image) <= 1 or (image[0] == 0 and len(image) <= 3 * PAGE):
         return {}
-    page, homes = home_pages(image)
-    pages = {i: page(i) for i in range(3, homes)}
-    texts = [text for it in pages.values() if it[0] == 1 for text in strings(it)]
+    pages, top = home_pages(image)
+    texts = {(i, slot): text for i, it in pages.items() if it[0] == 1 for slot, text in enumerate(strings(it))}
     chains = {i: long_page(it) for i, it in pages.items() if it[0] == 2}
-    need(all(it[0] in (1, 2) or not any(it) for it in pages.values()), "a page is of no kind")
-    found = {}
-    for text in texts:
+    directory = {i: directory_page(it) for i, it in pages.items() if it[0] == 3}
+    need(all(it[0] in (1, 2, 3) or not any(it) for it in pages.values()), "a page is of no kind")
+    found, keys = {}, {}
+    for at, text in texts.items():
         need(len(text) >= 3 and text[0] in (0, 1), "a string is no entry")
         end = 3 + number(text, 1, 2)
         key, value = text[3:end], text[end:]
@@ -91,8 +111,12 @@ def entries(image):
                 value += more
             need(len(value) == length and 3 + len(key) + length > 4084, "a long entry has the wrong length")
         need(len(value) <= 2**26, "a value is too long")
-        found[key] = value
+        found[key], keys[at] = value, key
     need(not chains, "a long page belongs to no entry")
+    named = places(directory, top) if top else sorted(keys, key=keys.get)
+    need(not directory, "a page of the directory isn't in it")
+    # (keys are different, so the lists are the same only where each entry is named once)
+    need([keys.get(it) for it in named] == sorted(found), "the directory doesn't name just the entries, in order of key")
     return found
 
 
